@@ -1,0 +1,58 @@
+use mathlib.Core.Path.{_≡_}
+use Prim.Native.Nat.{ℕ, _-_, _*_, _%_, _^_}
+use native.Mathlib.Omega.{arith}
+use lib.Pow.{pow-pos}
+use borrow.Author.Needs.{needs}
+use Rattle.strings.specs.BitLaws.{one-shl}
+use Rattle.strings.specs.RuleLaws.{rule-many, rule-length, rule-even, rule-odd}
+use Rattle.strings.proofs.keeps_string_rule.Statement.{statement}
+use Rattle.strings.proofs.keeps_string_rule.Tie as tie
+
+returns : tie.Need-returns
+returns c = rule-many _ _ (c .if1 .taken)
+
+add-if2 : tie.Need-add-if2
+add-if2 c = search needs
+
+returns-2 : tie.Need-returns-2
+returns-2 c = rule-length _ _ (c .if2 .taken)
+
+returns-3 : tie.Need-returns-3
+returns-3 c = rule-even _ _ (c .before .before .if1 .left) (c .before .if2 .left) (c .if3 .taken)
+
+shared-slice-read-result : tie.Need-shared-slice-read-result
+shared-slice-read-result c = search needs
+
+sub-result : tie.Need-sub-result
+sub-result c = search needs
+
+cast-result : tie.Need-cast-result
+cast-result c = search needs
+
+shl-result : tie.Need-shl-result
+shl-result c = search needs
+
+-- the power of two that the code divides by
+divisor : (bits : ℕ) → (bits % 8 ≡ 0 → ⊥) → (1 * 2 ^ (8 - bits % 8)) % 256 ≡ 2 ^ (8 - bits % 8)
+divisor bits h = one-shl (8 - bits % 8) (omega arith)
+
+rem-result : tie.Need-rem-result
+rem-result c = rw (divisor (c .before .before .before .before .args .bits) (c .before .if3 .left)) (pow-pos (8 - (c .before .before .before .before .args .bits) % 8))
+
+returns-4 : tie.Need-returns-4
+returns-4 c = rw (divisor (c .before .before .before .before .args .bits) (c .before .if3 .left)) (rule-odd _ _ (c .before .before .before .if1 .left) (c .before .before .if2 .left) (c .before .if3 .left))
+
+pub keeps-string-rule-spec : {M : Type 1} → statement M
+keeps-string-rule-spec =
+    tie.close
+    (tie.spec
+    returns
+    add-if2
+    returns-2
+    returns-3
+    shared-slice-read-result
+    sub-result
+    cast-result
+    shl-result
+    rem-result
+    returns-4)

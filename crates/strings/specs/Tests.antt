@@ -1,0 +1,21 @@
+-- Laws of tests: what a Bool that came out true or false says.
+use mathlib.Core.Path.{_≡_, refl, sym, _∙_}
+use mathlib.Core.Bool.{Bool, true, false, cond, not, _&&_}
+use Prim.Native.Nat.{ℕ}
+use native.Mathlib.Omega.{arith}
+
+pub true-false : true ≡ false → ⊥
+true-false e = let z : _≡_ {A = ℕ} 0 1 = cc in omega arith
+
+pub and-left : (a b : Bool) → a && b ≡ true → a ≡ true
+and-left true b e = refl
+and-left false b e = e
+
+pub and-right : (a b : Bool) → a && b ≡ true → b ≡ true
+and-right true b e = e
+and-right false b e = absurd (true-false (sym e))
+
+-- to prove P of what a test chooses
+pub by-test {ℓ κ} : {A : Type ℓ} (P : A → Type κ) (t : Bool) {a b : A} → (t ≡ true → P a) → (t ≡ false → P b) → P (cond t a b)
+by-test P true f g = f refl
+by-test P false f g = g refl

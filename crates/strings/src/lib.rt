@@ -1,0 +1,139 @@
+// Bit strings packed in bytes: the lowest of the four layers. First bit in the most significant place.
+ghost use mathlib.Core.Path.{_≡_};
+ghost use mathlib.Core.Bool.{Bool, true, false};
+ghost use Prim.Native.Nat.{ℕ, _+_, _*_, _≤_, _<_};
+ghost use lib.ListN.{length};
+ghost use Rattle.strings.specs.Bits.{bitAt, range, flipped, setBit, writeBits, sameBits, cleared, Part};
+ghost use Rattle.strings.specs.StringRule.{stringRule};
+ghost use Rattle.strings.specs.Refusals.{refusalNumber};
+
+// Why a call is turned down (01, "Why a call is turned down"). specs/Refusals.antt has the numbers, 1 to 9 in this order.
+pub enum Refusal {
+    // A setting handed in is outside its limits.
+    BadSetting,
+    // A lent string breaks the string rule, or has another bit count than at opening.
+    BadString,
+    // The call is out of turn, or the state is unsound.
+    OutOfTurn,
+    // The message ends inside its kind, a field or its bits.
+    CutShort,
+    // A number is not in its shortest form, or is 2^32 or more.
+    BadNumber,
+    // The kind is unknown, or is not the one that is awaited.
+    BadKind,
+    // Bytes follow the last field or its bits.
+    LeftOver,
+    // A value is outside its range.
+    OutOfRange,
+    // A lent buffer or sheet is too short.
+    NoRoom,
+}
+
+// The number of a refusal.
+pub fn refusal_number(e: Refusal) -> u32
+    ensures { λ r. ⌜ r ≡ refusalNumber e ⌝ }
+{
+    match e {
+        Refusal::BadSetting => 1,
+        Refusal::BadString => 2,
+        Refusal::OutOfTurn => 3,
+        Refusal::CutShort => 4,
+        Refusal::BadNumber => 5,
+        Refusal::BadKind => 6,
+        Refusal::LeftOver => 7,
+        Refusal::OutOfRange => 8,
+        Refusal::NoRoom => 9,
+    }
+}
+
+// Whether the bytes are a string of that many bits. Only the length and the last byte are looked at.
+pub fn keeps_string_rule(s: &[u8], bits: usize) -> bool
+    ensures { λ r. ⌜ r ≡ stringRule (now (s .entry)) bits ⌝ }
+{
+    if 65536 < bits {
+        return false;
+    }
+    if s.len() != (bits + 7) / 8 {
+        return false;
+    }
+    let used = bits % 8;
+    if used == 0 {
+        return true;
+    }
+    s[bits / 8] % (1u8 << (8 - used)) == 0
+}
+
+// Bit i.
+pub fn get_bit(s: &[u8], i: usize) -> bool
+    requires { ⌜ i < 8 * length (now s) ⌝ }
+    ensures { λ r. ⌜ r ≡ bitAt (now (s .entry)) i ⌝ }
+{
+    (s[i / 8] >> (7 - i % 8)) % 2 == 1
+}
+
+// Bit i is turned over.
+fn flip_bit(s: &mut [u8], i: usize)
+    requires { ⌜ i < 8 * length (now s) ⌝ }
+    ensures { λ r. ⌜ now (s .exit) ≡ flipped (now (s .entry)) i ⌝ }
+{
+    let j = i / 8;
+    s[j] = s[j] ^ (1u8 << (7 - i % 8));
+}
+
+// Bit i is set to b.
+pub fn set_bit(s: &mut [u8], i: usize, b: bool)
+    requires { ⌜ i < 8 * length (now s) ⌝ }
+    ensures { λ r. ⌜ now (s .exit) ≡ setBit (now (s .entry)) i b ⌝ }
+{
+    if get_bit(s, i) {
+        if !b {
+            flip_bit(s, i);
+        }
+    } else {
+        if b {
+            flip_bit(s, i);
+        }
+    }
+}
+
+// The len bits of `from` that start at `start` are written into `to` from place `at` on.
+pub fn copy_bits(from: &[u8], start: usize, len: usize, to: &mut [u8], at: usize)
+    requires { ⌜ Part (now from) start len ⌝ }
+    requires { ⌜ Part (now to) at len ⌝ }
+    ensures { λ r. ⌜ now (to .exit) ≡ writeBits (now (to .entry)) at (range (now (from .entry)) start len) ⌝ }
+{
+    let mut i: usize = 0;
+    while i < len {
+        let b = get_bit(from, start + i);
+        set_bit(to, at + i, b);
+        i += 1;
+    }
+}
+
+// The count bytes from index `at` on become 0.
+pub fn clear_bytes(s: &mut [u8], at: usize, count: usize)
+    requires { ⌜ at + count ≤ length (now s) ⌝ }
+    ensures { λ r. ⌜ now (s .exit) ≡ cleared (now (s .entry)) at count ⌝ }
+{
+    let mut i: usize = 0;
+    while i < count {
+        s[at + i] = 0;
+        i += 1;
+    }
+}
+
+// Whether two ranges of len bits are equal; the comparison ends at the first bit that differs.
+pub fn same_bits(a: &[u8], i: usize, b: &[u8], j: usize, len: usize) -> bool
+    requires { ⌜ Part (now a) i len ⌝ }
+    requires { ⌜ Part (now b) j len ⌝ }
+    ensures { λ r. ⌜ r ≡ sameBits (range (now (a .entry)) i len) (range (now (b .entry)) j len) ⌝ }
+{
+    let mut k: usize = 0;
+    while k < len {
+        if get_bit(a, i + k) != get_bit(b, j + k) {
+            return false;
+        }
+        k += 1;
+    }
+    true
+}
