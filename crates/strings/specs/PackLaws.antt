@@ -8,12 +8,13 @@ use native.Mathlib.Nat.{zero-div, add-zero, zero-add, mod-eq-of-lt}
 use native.Mathlib.Decide.{decLt, ℕ-discrete}
 use native.Mathlib.Omega.{arith}
 use lib.ListN.{length, getD, set, take, drop, length-replicate, getD-replicate, length-set, List·getD-eq-default}
-use lib.Seq.{sets, sets-eq, ext-getD, getD-set-same, getD-set-other, length-take-le}
+use lib.Seq.{sets, sets-eq, length-sets, ext-getD, getD-set-same, getD-set-other, length-take-le}
 use lib.Dec.{eqb}
 use lib.Bits.{bitXor, xor-lt}
 use lib.Pow.{pow-lt}
 use Rattle.strings.specs.Bits.{bitAt, range, bytesFor, flipped, setBit, differs, writeBits, zeroBytes, pack, cleared}
 use Rattle.strings.specs.StringRule.{IsString}
+use Rattle.strings.specs.BitLaws.{bit-front}
 use Rattle.strings.specs.RangeLaws.{range-length, range-at}
 use Rattle.strings.specs.WriteLaws.{length-writeBits, write-outside, write-inside, write-front, write-behind}
 use Rattle.strings.specs.RuleLaws.{low-digits, digit-is}
@@ -131,3 +132,17 @@ write-cleared buf at l h =
     ∙ write-behind (take at buf) (z ++ tail) 0 l
     ∙ ap (λ (u : List ℕ). take at buf ++ u) (write-front z tail 0 l (omega arith))
     ∙ sym (sets-at (writeBits z 0 l) buf at n (length-writeBits z 0 l ∙ lz) h)
+
+-- ---- cleared bytes
+pub cleared-first : (s : List ℕ) (k : ℕ) → k ≤ length s → cleared s 0 k ≡ zeroBytes k ++ drop k s
+unfolding cleared
+cleared-first s k h = sets-at (zeroBytes k) s 0 k (length-zeros k) (omega arith) ∙ ap (λ (n : ℕ). zeroBytes k ++ drop n s) (zero-add k)
+
+pub length-cleared : (s : List ℕ) (at k : ℕ) → length (cleared s at k) ≡ length s
+unfolding cleared
+length-cleared s at k = length-sets s at (zeroBytes k)
+
+pub cleared-bit : (s : List ℕ) (k i : ℕ) → k ≤ length s → i < 8 * k → bitAt (cleared s 0 k) i ≡ false
+cleared-bit s k i h l =
+    let z = length-zeros k in
+    ap (λ (t : List ℕ). bitAt t i) (cleared-first s k h) ∙ bit-front (zeroBytes k) (drop k s) i (omega arith) ∙ zeros-bit k i

@@ -4,14 +4,14 @@ use mathlib.Core.Bool.{Bool, true, false}
 use mathlib.Core.Logic.{_⊎_, inl, inr}
 use mathlib.Core.List.{List, [], _∷_, _++_}
 use Prim.Native.Nat.{ℕ, zero, suc, _+_, _-_, _*_, _≤_, _<_}
-use native.Mathlib.Nat.{add-zero}
+use native.Mathlib.Nat.{add-zero, zero-add}
 use native.Mathlib.Numerals.{add-one}
 use native.Mathlib.Omega.{arith}
-use lib.ListN.{length, set}
+use lib.ListN.{length, set, take, drop}
 use lib.Seq.{sets}
 use Rattle.strings.specs.Bits.{bitAt, range, setBit, writeBits, zeroBytes}
 use Rattle.strings.specs.BitLaws.{setBit-same, setBit-other, length-setBit, setBit-front, setBit-behind}
-use Rattle.strings.specs.RangeLaws.{range-same, rest, rest-is}
+use Rattle.strings.specs.RangeLaws.{range-same, range-add, range-take, range-drop, rest, rest-is}
 
 pub length-writeBits : (s : List ℕ) (a : ℕ) (l : List Bool) → length (writeBits s a l) ≡ length s
 unfolding writeBits
@@ -52,6 +52,24 @@ range-before s a l x n h o = range-same (writeBits s a l) s x n (λ j p q. write
 
 pub range-after : (s : List ℕ) (a : ℕ) (l : List Bool) (x n : ℕ) → a + length l ≤ 8 * length s → a + length l ≤ x → range (writeBits s a l) x n ≡ range s x n
 range-after s a l x n h o = range-same (writeBits s a l) s x n (λ j p q. write-outside s a l j h (inr (omega arith)))
+
+-- a range that a write falls into
+pub range-write : (s : List ℕ) (n x : ℕ) (b : List Bool) → x + length b ≤ n → n ≤ 8 * length s
+    → range (writeBits s x b) 0 n ≡ take x (range s 0 n) ++ (b ++ drop (x + length b) (range s 0 n))
+range-write s n x b h k =
+    let t = writeBits s x b in
+    let m = n - (x + length b) in
+    let e : n ≡ x + (length b + (n - (x + length b))) = omega arith in
+    ap (range t 0) e
+    ∙ range-add t 0 x (length b + m)
+    ∙ ap (λ (l : List Bool). range t 0 x ++ l) (range-add t (0 + x) (length b) m)
+    ∙ ap₂ (λ (u v : List Bool). u ++ v)
+    (range-before s x b 0 x (omega arith) (omega arith) ∙ sym (range-take s 0 n x (omega arith)))
+    (ap₂ (λ (u v : List Bool). u ++ v)
+    (ap (λ (a : ℕ). range t a (length b)) (zero-add x) ∙ write-inside s x b (omega arith))
+    (range-after s x b (0 + x + length b) m (omega arith) (omega arith)
+    ∙ ap (λ (a : ℕ). range s a m) (let z : 0 + x + length b ≡ 0 + (x + length b) = omega arith in z)
+    ∙ sym (range-drop s 0 n (x + length b) h)))
 
 -- two lists written one behind the other
 pub write-append : (s : List ℕ) (a : ℕ) (l m : List Bool) → writeBits s a (l ++ m) ≡ writeBits (writeBits s a l) (a + length l) m

@@ -1,0 +1,16 @@
+-- Other forms of the hash. HashLaws has that they are equal to it.
+use mathlib.Core.Bool.{Bool, cond}
+use mathlib.Core.List.{List, [], _∷_}
+use Prim.Native.Nat.{ℕ, suc, _%_, _^_}
+use lib.Bits.{bitXor}
+use Rattle.codes.specs.Hash.{step, row}
+
+-- 01's words: the xor of the low h bits of row i over the set bits, where the first bit has row i
+unfoldable pub hashRows : ℕ → ℕ → ℕ → List Bool → ℕ
+hashRows h key i [] = 0
+hashRows h key i (b ∷ l) = bitXor (cond b (row key i % 2 ^ h) 0) (hashRows h key (suc i) l)
+
+-- the code's way: the xor of the whole rows of the set bits, of which the low h bits are taken at the end; v is the row before the first bit's
+unfoldable pub wholeHash : ℕ → List Bool → ℕ
+wholeHash v [] = 0
+wholeHash v (b ∷ l) = bitXor (cond b (step v) 0) (wholeHash (step v) l)

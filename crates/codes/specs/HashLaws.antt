@@ -1,0 +1,176 @@
+-- Laws of the xorshift rows and of the hash, for every width h, every row before the first bit and every length.
+use mathlib.Core.Path.{_≡_, refl, sym, ap, ap₂, _∙_}
+use mathlib.Core.Bool.{Bool, true, false, cond}
+use mathlib.Core.List.{List, [], _∷_, _++_}
+use Prim.Native.Nat.{ℕ, zero, suc, _+_, _*_, _/_, _%_, _^_, _<_, _≤_}
+use native.Mathlib.Nat.{mod-lt, mod-eq-of-lt, one-mul, zero-mod, add-zero, add-suc}
+use native.Mathlib.Omega.{arith}
+use lib.Arith.{bin-ind}
+use lib.ListN.{length, take, drop}
+use lib.Seq.{length-take-le}
+use lib.Pow.{pow-lt, pow-pos, shr-le}
+use lib.Bits.{bitXor, differ, xor-shr, xor-step, xor-zero-l, xor-zero-r, xor-lt, xor-mod}
+use Rattle.strings.specs.BitLaws.{xor-odd}
+use Rattle.codes.specs.Repair.{without, insertAt}
+use Rattle.codes.specs.Hash.{xorLeft, xorRight, step, row, hashFrom, hash}
+use Rattle.codes.specs.HashForms.{hashRows, wholeHash}
+
+-- ---- xor is associative
+xor-half : (a b : ℕ) → bitXor a b / 2 ≡ bitXor (a / 2) (b / 2)
+xor-half a b = xor-shr a b 1
+
+differ-assoc : (a b c : ℕ) → a < 2 → b < 2 → c < 2 → differ (differ a b) c ≡ differ a (differ b c)
+differ-assoc zero b c ha hb hc = refl
+differ-assoc (suc zero) zero c ha hb hc = refl
+differ-assoc (suc zero) (suc zero) zero ha hb hc = refl
+differ-assoc (suc zero) (suc zero) (suc zero) ha hb hc = refl
+differ-assoc (suc zero) (suc zero) (suc (suc c)) ha hb hc = absurd (omega arith)
+differ-assoc (suc zero) (suc (suc b)) c ha hb hc = absurd (omega arith)
+differ-assoc (suc (suc a)) b c ha hb hc = absurd (omega arith)
+
+pub xor-assoc : (a b c : ℕ) → bitXor (bitXor a b) c ≡ bitXor a (bitXor b c)
+xor-assoc a =
+    bin-ind (λ (n : ℕ). (b c : ℕ) → bitXor (bitXor n b) c ≡ bitXor n (bitXor b c))
+    (λ b c. ap (λ (x : ℕ). bitXor x c) (xor-zero-l b) ∙ sym (xor-zero-l (bitXor b c)))
+    (λ n ih b c.
+    xor-step (bitXor n b) c ∙ ap₂ (λ (x y : ℕ). bitXor x (c / 2) * 2 + differ y (c % 2)) (xor-half n b) (xor-odd n b)
+    ∙ ap₂ (λ (x y : ℕ). x * 2 + y) (ih (b / 2) (c / 2)) (differ-assoc (n % 2) (b % 2) (c % 2) (omega arith) (omega arith) (omega arith))
+    ∙ ap₂ (λ (x y : ℕ). bitXor (n / 2) x * 2 + differ (n % 2) y) (sym (xor-half b c)) (sym (xor-odd b c)) ∙ sym (xor-step n (bitXor b c)))
+    a
+
+-- ---- rows stay below 2^32
+xor-left-below : (k v : ℕ) → v < 2 ^ 32 → xorLeft k v < 2 ^ 32
+unfolding xorLeft
+xor-left-below k v h = xor-lt 32 v (v * 2 ^ k % 2 ^ 32) h (mod-lt (v * 2 ^ k) (pow-pos 32))
+
+xor-right-below : (k v : ℕ) → v < 2 ^ 32 → xorRight k v < 2 ^ 32
+unfolding xorRight
+xor-right-below k v h = xor-lt 32 v (v / 2 ^ k) h (let e = shr-le v k in omega arith)
+
+pub step-below : (v : ℕ) → v < 2 ^ 32 → step v < 2 ^ 32
+unfolding step
+step-below v h = xor-left-below 5 (xorRight 17 (xorLeft 13 v)) (xor-right-below 17 (xorLeft 13 v) (xor-left-below 13 v h))
+
+pub row-below : (v i : ℕ) → v < 2 ^ 32 → row v i < 2 ^ 32
+unfolding row
+row-below v zero h = h
+row-below v (suc i) h = step-below (row v i) (row-below v i h)
+
+-- the row before the first bit, and the next
+pub row-zero : (v : ℕ) → row v 0 ≡ v
+unfolding row
+row-zero v = refl
+
+pub row-suc : (v i : ℕ) → row v (suc i) ≡ step (row v i)
+unfolding row
+row-suc v i = refl
+
+-- one step before, one row later
+pub row-shift : (v i : ℕ) → row (step v) i ≡ row v (suc i)
+unfolding row
+row-shift v zero = refl
+row-shift v (suc i) = ap step (row-shift v i)
+
+-- i rows and then j are i + j rows
+pub row-row : (v i j : ℕ) → row (row v i) j ≡ row v (i + j)
+unfolding row
+row-row v i zero = ap (row v) (sym (add-zero i))
+row-row v i (suc j) = ap step (row-row v i j) ∙ ap (row v) (sym (add-suc i j))
+
+-- ---- the hash
+pub hash-empty : (h v : ℕ) → hashFrom h v [] ≡ 0
+unfolding hashFrom
+hash-empty h v = refl
+
+pub hash-cons : (h v : ℕ) (b : Bool) (l : List Bool) → hashFrom h v (b ∷ l) ≡ bitXor (cond b (step v % 2 ^ h) 0) (hashFrom h (step v) l)
+unfolding hashFrom
+hash-cons h v b l = refl
+
+pub hash-is : (h key : ℕ) (l : List Bool) → hash h key l ≡ hashFrom h key l
+unfolding hash
+hash-is h key l = refl
+
+pub hash-equal : (h key : ℕ) (l m : List Bool) → l ≡ m → hash h key l ≡ hash h key m
+hash-equal h key l m e = ap (hash h key) e
+
+cut-below : (h : ℕ) (b : Bool) (v : ℕ) → cond b (v % 2 ^ h) 0 < 2 ^ h
+cut-below h true v = mod-lt v (pow-pos h)
+cut-below h false v = pow-pos h
+
+pub hash-from-below : (h v : ℕ) (l : List Bool) → hashFrom h v l < 2 ^ h
+unfolding hashFrom
+hash-from-below h v [] = pow-pos h
+hash-from-below h v (b ∷ l) = xor-lt h (cond b (step v % 2 ^ h) 0) (hashFrom h (step v) l) (cut-below h b (step v)) (hash-from-below h (step v) l)
+
+pub hash-below : (h key : ℕ) (l : List Bool) → hash h key l < 2 ^ h
+unfolding hash
+hash-below h key l = hash-from-below h key l
+
+-- over ++: the second part goes on with the rows behind the first
+pub hash-append : (h v : ℕ) (l m : List Bool) → hashFrom h v (l ++ m) ≡ bitXor (hashFrom h v l) (hashFrom h (row v (length l)) m)
+unfolding hashFrom row
+hash-append h v [] m = sym (xor-zero-l (hashFrom h v m))
+hash-append h v (b ∷ l) m =
+    ap (bitXor (cond b (step v % 2 ^ h) 0)) (hash-append h (step v) l m ∙ ap (λ (x : ℕ). bitXor (hashFrom h (step v) l) (hashFrom h x m)) (row-shift v (length l)))
+    ∙ sym (xor-assoc (cond b (step v % 2 ^ h) 0) (hashFrom h (step v) l) (hashFrom h (row v (suc (length l))) m))
+
+-- with one bit put in, and with one taken out
+pub hash-insert : (h v p : ℕ) (b : Bool) (l : List Bool) → p ≤ length l
+    → hashFrom h v (insertAt p b l) ≡ bitXor (hashFrom h v (take p l)) (bitXor (cond b (row v (suc p) % 2 ^ h) 0) (hashFrom h (row v (suc p)) (drop p l)))
+unfolding row
+hash-insert h v p b l e =
+    hash-append h v (take p l) (b ∷ drop p l)
+    ∙ ap (λ (n : ℕ). bitXor (hashFrom h v (take p l)) (hashFrom h (row v n) (b ∷ drop p l))) (length-take-le p l e)
+    ∙ ap (bitXor (hashFrom h v (take p l))) (hash-cons h (row v p) b (drop p l))
+
+pub hash-without : (h v i : ℕ) (l : List Bool) → i < length l
+    → hashFrom h v (without i l) ≡ bitXor (hashFrom h v (take i l)) (hashFrom h (row v i) (drop (suc i) l))
+hash-without h v i l e =
+    hash-append h v (take i l) (drop (suc i) l)
+    ∙ ap (λ (n : ℕ). bitXor (hashFrom h v (take i l)) (hashFrom h (row v n) (drop (suc i) l))) (length-take-le i l (omega arith))
+
+-- ---- 01's words: "the xor of the low h bits of row i over its set bits, i counted from the piece's start", i from 1
+hash-rows-from : (h key i : ℕ) (l : List Bool) → hashFrom h (row key i) l ≡ hashRows h key (suc i) l
+unfolding hashFrom hashRows row
+hash-rows-from h key i [] = refl
+hash-rows-from h key i (b ∷ l) = ap (bitXor (cond b (row key (suc i) % 2 ^ h) 0)) (hash-rows-from h key (suc i) l)
+
+pub hash-rows : (h key : ℕ) (l : List Bool) → hash h key l ≡ hashRows h key 1 l
+unfolding hash row
+hash-rows h key l = hash-rows-from h key 0 l
+
+-- ---- the low h bits can be taken once, at the end
+cut-whole : (h : ℕ) (b : Bool) (v : ℕ) → cond b (v % 2 ^ h) 0 ≡ cond b v 0 % 2 ^ h
+cut-whole h true v = refl
+cut-whole h false v = sym (zero-mod (2 ^ h))
+
+pub hash-whole : (h v : ℕ) (l : List Bool) → hashFrom h v l ≡ wholeHash v l % 2 ^ h
+unfolding hashFrom wholeHash
+hash-whole h v [] = sym (zero-mod (2 ^ h))
+hash-whole h v (b ∷ l) =
+    ap₂ bitXor (cut-whole h b (step v)) (hash-whole h (step v) l) ∙ sym (xor-mod (cond b (step v) 0) (wholeHash (step v) l) h)
+
+-- the steps of a function that passes over the bits: acc is the xor so far, v the row of the last bit read; after one bit more they are acc′ and v′
+module _ (v v′ acc acc′ t : ℕ) (l l′ : List Bool) (n : v′ ≡ step v) where
+  pub whole-one : acc′ ≡ bitXor acc v′ → l ≡ true ∷ l′ → bitXor acc (wholeHash v l) ≡ t → bitXor acc′ (wholeHash v′ l′) ≡ t
+  unfolding wholeHash
+  whole-one f e g = rw (f, n) (xor-assoc acc (step v) (wholeHash (step v) l′) ∙ (rw e at g))
+
+  pub whole-zero : acc′ ≡ acc → l ≡ false ∷ l′ → bitXor acc (wholeHash v l) ≡ t → bitXor acc′ (wholeHash v′ l′) ≡ t
+  unfolding wholeHash
+  whole-zero f e g = rw (f, n) (sym (ap (bitXor acc) (xor-zero-l (wholeHash (step v) l′))) ∙ (rw e at g))
+
+pub whole-first : (v : ℕ) (l : List Bool) → bitXor 0 (wholeHash v l) ≡ wholeHash v l
+whole-first v l = xor-zero-l (wholeHash v l)
+
+pub whole-last : (v acc t : ℕ) (l : List Bool) → l ≡ [] → bitXor acc (wholeHash v l) ≡ t → acc ≡ t
+unfolding wholeHash
+whole-last v acc t l e g = sym (xor-zero-r acc) ∙ (rw e at g)
+
+pub whole-cut : (h key acc : ℕ) (l : List Bool) → acc ≡ wholeHash key l → acc % 2 ^ h ≡ hash h key l
+unfolding hash
+whole-cut h key acc l e = ap (λ (x : ℕ). x % 2 ^ h) e ∙ sym (hash-whole h key l)
+
+-- 1 shifted left by h in 64 bits
+pub one-shifted : (h : ℕ) → h ≤ 32 → (1 * 2 ^ h) % 2 ^ 64 ≡ 2 ^ h
+one-shifted h l = ap (λ (x : ℕ). x % 2 ^ 64) (one-mul (2 ^ h)) ∙ mod-eq-of-lt (pow-lt {j = 64} (omega arith))

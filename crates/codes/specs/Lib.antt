@@ -1,0 +1,16 @@
+-- What a reader must believe of codes and hash: Syndrome, Repair, Hash, Entries. Place, Edits and HashForms are the code's way to them. The rest is laws and samples.
+pub mod Syndrome
+pub mod Repair
+pub mod Hash
+pub mod Entries
+pub mod Place
+pub mod Edits
+pub mod HashForms
+pub mod SyndromeLaws
+pub mod RepairLaws
+pub mod PlaceLaws
+pub mod EditLaws
+pub mod HashLaws
+pub mod EntryLaws
+pub mod Samples
+pub mod Collision

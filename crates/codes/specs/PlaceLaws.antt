@@ -1,0 +1,140 @@
+-- Laws for the functions that find a place: the steps of their scans, and what they compute from the numbers that they hold.
+use mathlib.Core.Path.{_≡_, refl, sym, ap, ap₂, _∙_}
+use mathlib.Core.Bool.{Bool, true, false, cond}
+use mathlib.Core.List.{List, [], _∷_}
+use mathlib.Core.Option.{none, some}
+use Prim.Native.Nat.{ℕ, zero, suc, _+_, _-_, _%_, _≤_, _<_}
+use native.Mathlib.Numerals.{add-one}
+use native.Mathlib.Decide.{decLt}
+use native.Mathlib.Omega.{arith}
+use lib.ListN.{length, drop, getD}
+use lib.Dec.{eqb}
+use borrow.Author.Tests.{le-leb, lt-leb, eq-eqb, ne-eqb, eqb-true, eqb-false}
+use Rattle.strings.specs.Bits.{bitAt, range}
+use Rattle.strings.specs.RangeLaws.{rest, range-length, range-at, range-drop}
+use Rattle.codes.specs.Syndrome.{weightedSum, syndrome}
+use Rattle.codes.specs.SyndromeLaws.{weighted-sum-without}
+use Rattle.codes.specs.Repair.{without, takeOut}
+use Rattle.codes.specs.RepairLaws.{length-without, without-deletion, take-out-unique, take-out-no}
+use Rattle.codes.specs.Place.{ones, zeroPlace, onePlace, lack, putBit, putPlace, firstTake, takePlace}
+
+-- ---- the place of a 0
+pub zero-place-stop : (r : ℕ) (l : List Bool) → ones l ≤ r → zeroPlace r l ≡ 0
+zero-place-stop r [] h = refl
+zero-place-stop r (b ∷ l) h = rw (le-leb (ones (b ∷ l)) r h) refl
+
+pub zero-place-next : (r : ℕ) (l l′ : List Bool) (b : Bool) → l ≡ b ∷ l′ → r < ones l → zeroPlace r l ≡ suc (zeroPlace r l′)
+zero-place-next r l l′ b e h = let h′ : r < ones (b ∷ l′) = rw e at h in rw (e, lt-leb (ones (b ∷ l′)) r h′) refl
+
+-- ---- the place of a 1
+pub one-place-stop : (z : ℕ) (l : List Bool) → z ≡ 0 → onePlace z l ≡ 0
+one-place-stop z l e = rw e refl
+
+pub one-place-empty : (z : ℕ) → onePlace z [] ≡ 0
+one-place-empty zero = refl
+one-place-empty (suc z) = refl
+
+pub one-place-one : (z : ℕ) (l l′ : List Bool) → l ≡ true ∷ l′ → (z ≡ 0 → ⊥) → onePlace z l ≡ suc (onePlace z l′)
+one-place-one zero l l′ e h = absurd (h refl)
+one-place-one (suc z) l l′ e h = rw e refl
+
+pub one-place-zero : (z : ℕ) (l l′ : List Bool) → l ≡ false ∷ l′ → (z ≡ 0 → ⊥) → onePlace z l ≡ suc (onePlace (z - 1) l′)
+one-place-zero zero l l′ e h = absurd (h refl)
+one-place-zero (suc z) l l′ e h = let q : suc z - 1 ≡ z = omega arith in rw (e, q) refl
+
+-- ---- the bit and the place, from the length n, the sum x, the ones w and the lack d
+pub lack-of : (a : ℕ) (l : List Bool) (n x : ℕ) → length l ≡ n → x ≡ weightedSum 1 l → (a + (n + 2 - x % (n + 2))) % (n + 2) ≡ lack a l
+unfolding lack
+lack-of a l n x e f = rw (e, f) refl
+
+module _ (a : ℕ) (l : List Bool) (w d p : ℕ) (e : w ≡ ones l) (f : d ≡ lack a l) where
+  pub put-zero : d ≤ w → p ≡ zeroPlace d l → (p ≡ putPlace a l) × (false ≡ putBit a l)
+  unfolding putPlace putBit
+  put-zero h g = let t = le-leb (lack a l) (ones l) (omega arith) in rw t (g ∙ ap (λ (x : ℕ). zeroPlace x l) f, refl)
+
+  pub put-one : w < d → p ≡ onePlace (d - w - 1) l → (p ≡ putPlace a l) × (true ≡ putBit a l)
+  unfolding putPlace putBit
+  put-one h g = let t = lt-leb (lack a l) (ones l) (omega arith) in rw t (g ∙ ap₂ (λ (x y : ℕ). onePlace (x - y - 1) l) f e, refl)
+
+-- ---- the syndrome without bit i, from the length n, the sum x, the weight d of the bit and the ones r behind it
+pub without-syndrome : (i : ℕ) (l : List Bool) (n x d r : ℕ) → length l ≡ n → i < n → x ≡ weightedSum 1 l → d ≡ cond (getD l i false) (1 + i) 0 → r ≡ ones (drop (suc i) l)
+    → (d + r ≤ x) × ((x - d - r) % n ≡ syndrome (without i l))
+unfolding syndrome
+without-syndrome i l n x d r e h f g k =
+    let o = weighted-sum-without 1 i l (omega arith) in
+    let m : length (without i l) + 1 ≡ n = length-without i l (omega arith) ∙ e in
+    let y : x - d - r ≡ weightedSum 1 (without i l) = omega arith in
+    (omega arith, ap₂ (λ (p q : ℕ). p % q) y (sym m))
+
+-- what the search for a bit to take out holds at bit i: the sum of the range, the weight of the bit, and the ones behind it
+pub record Without (s : List ℕ) (start len i sum weight right : ℕ) : Type 0 where
+  pub enough : weight + right ≤ sum
+  pub gives : (sum - weight - right) % len ≡ syndrome (without i (range s start len))
+  pub behind : right ≡ ones (rest s start len (i + 1))
+
+pub without-turn : (s : List ℕ) (start len i sum weight right : ℕ) (b y : Bool) → i < len → b ≡ bitAt s (start + i) → b ≡ y → sum ≡ weightedSum 1 (range s start len)
+    → weight ≡ cond y (i + 1) 0 → right ≡ ones (rest s start len (i + 1)) → Without s start len i sum weight right
+without-turn s start len i sum weight right b y h e f g k m =
+    let bit : getD (range s start len) i false ≡ y = range-at s start len i h ∙ sym e ∙ f in
+    let j : i + 1 ≡ 1 + i = omega arith in
+    let behind : drop (suc i) (range s start len) ≡ rest s start len (i + 1) = ap (λ (x : ℕ). drop x (range s start len)) (sym (add-one i)) ∙ range-drop s start len (i + 1) (omega arith) in
+    let w =
+    without-syndrome i (range s start len) len sum weight right (range-length s start len) h g
+    (k ∙ ap₂ (λ (t : Bool) (x : ℕ). cond t x 0) (sym bit) j) (m ∙ ap ones (sym behind)) in
+    record { enough = w .0; gives = w .1; behind = m }
+
+-- ---- the first place whose bit can be taken out
+module _ (a : ℕ) (l : List Bool) where
+  pub first-take-here : (n i : ℕ) → i < n → syndrome (without i l) ≡ a → firstTake a l (n - i) i ≡ i
+  unfolding firstTake
+  first-take-here n i h e = let q : n - i ≡ suc (n - i - 1) = omega arith in rw (q, eq-eqb (syndrome (without i l)) a e) refl
+
+  pub first-take-next : (n i : ℕ) → i < n → (syndrome (without i l) ≡ a → ⊥) → firstTake a l (n - i) i ≡ firstTake a l (n - (i + 1)) (i + 1)
+  unfolding firstTake
+  first-take-next n i h e =
+      let q : n - i ≡ suc (n - (i + 1)) = omega arith in
+      let j : i + 1 ≡ suc i = omega arith in
+      rw (q, ne-eqb (syndrome (without i l)) a e, j) refl
+
+  pub first-take-end : (n i : ℕ) → n ≤ i → firstTake a l (n - i) i ≡ i
+  unfolding firstTake
+  first-take-end n i h = let q : n - i ≡ 0 = omega arith in rw q refl
+
+  pub take-place-is : (n : ℕ) → length l ≡ n → firstTake a l (n - 0) 0 ≡ takePlace a l
+  unfolding takePlace
+  take-place-is n e = let q : n - 0 ≡ length l = omega arith in rw q refl
+
+  first-take-found : (n i : ℕ) → firstTake a l n i < i + n → syndrome (without (firstTake a l n i) l) ≡ a
+  unfolding firstTake
+  first-take-found zero i h = absurd (omega arith)
+  first-take-found (suc n) i h = go (eqb (syndrome (without i l)) a) refl (first-take-found n (suc i)) h
+    where
+      go : (t : Bool) → eqb (syndrome (without i l)) a ≡ t → (firstTake a l n (suc i) < suc i + n → syndrome (without (firstTake a l n (suc i)) l) ≡ a)
+          → cond t i (firstTake a l n (suc i)) < i + suc n → syndrome (without (cond t i (firstTake a l n (suc i))) l) ≡ a
+      go true e ih h = eqb-true (syndrome (without i l)) a e
+      go false e ih h = ih (omega arith)
+
+  first-take-passed : (n i k : ℕ) → i ≤ k → k < firstTake a l n i → syndrome (without k l) ≡ a → ⊥
+  unfolding firstTake
+  first-take-passed zero i k h p s = omega arith
+  first-take-passed (suc n) i k h p s = go (eqb (syndrome (without i l)) a) refl (λ q r. first-take-passed n (suc i) k q r s) p
+    where
+      go : (t : Bool) → eqb (syndrome (without i l)) a ≡ t → (suc i ≤ k → k < firstTake a l n (suc i) → ⊥) → k < cond t i (firstTake a l n (suc i)) → ⊥
+      go true e ih p = omega arith
+      go false e ih p = here (decLt i k)
+        where
+          here : Dec (i < k) → ⊥
+          here (yes q) = ih (omega arith) p
+          here (no q) = eqb-false (syndrome (without i l)) a e (ap (λ (m : ℕ). syndrome (without m l)) (let z : i ≡ k = omega arith in z) ∙ s)
+
+  -- what it gives is 01's take-out
+  pub take-place-found : takePlace a l < length l → takeOut a l ≡ some (without (takePlace a l) l)
+  unfolding takePlace
+  take-place-found h =
+      take-out-unique a l (without (takePlace a l) l) (without-deletion (takePlace a l) l h)
+      (first-take-found (length l) 0 (omega arith))
+
+  pub take-place-none : length l ≤ takePlace a l → takeOut a l ≡ none
+  unfolding takePlace
+  take-place-none h =
+      take-out-no a l (λ x d s. let w = d .within in first-take-passed (length l) 0 (d .place) (omega arith) (omega arith) (ap syndrome (sym (d .is)) ∙ s))

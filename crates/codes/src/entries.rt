@@ -1,0 +1,100 @@
+// What a host calls, on any bytes and numbers.
+ghost use mathlib.Core.Path.{_≡_};
+ghost use mathlib.Core.List.{_++_};
+ghost use Prim.Native.Nat.{_≤_};
+ghost use lib.ListN.{length};
+ghost use Rattle.codes.specs.Entries.{said, saidRepair, leaves, syndromeCall, hashCall, repairCall, repairRange, hashSettings};
+use crate::edits::Repair;
+use strings::Refusal;
+
+// A number, or why the call is turned down.
+pub enum NumberAnswer {
+    Value(u32),
+    Refused(Refusal),
+}
+
+pub enum RepairAnswer {
+    // The first bytes of the buffer are the repaired string.
+    Done,
+    // No deletion gives the syndrome; the buffer is as it was.
+    Nothing,
+    // The call is turned down; the buffer is as it was.
+    Refused(Refusal),
+}
+
+// The syndrome of a string.
+pub fn syndrome(s: &[u8], bits: usize) -> NumberAnswer
+    ensures { λ r. ⌜ said r ≡ syndromeCall (now (s .entry)) bits ⌝ }
+{
+    if !strings::keeps_string_rule(s, bits) {
+        return NumberAnswer::Refused(Refusal::BadString);
+    }
+    let a = crate::sums::syndrome_of(s, 0, bits);
+    NumberAnswer::Value(a as u32)
+}
+
+// Whether h and the key are within the settings' limits.
+fn keeps_hash_settings(h: u32, key: u32) -> bool
+    ensures { λ r. ⌜ r ≡ hashSettings h key ⌝ }
+{
+    if h < 8 {
+        return false;
+    }
+    if 32 < h {
+        return false;
+    }
+    1 <= key
+}
+
+// The hash of a string.
+pub fn hash(s: &[u8], bits: usize, h: u32, key: u32) -> NumberAnswer
+    ensures { λ r. ⌜ said r ≡ hashCall (now (s .entry)) bits h key ⌝ }
+{
+    if !keeps_hash_settings(h, key) {
+        return NumberAnswer::Refused(Refusal::BadSetting);
+    }
+    if !strings::keeps_string_rule(s, bits) {
+        return NumberAnswer::Refused(Refusal::BadString);
+    }
+    NumberAnswer::Value(crate::rows::hash_of(s, 0, bits, key, h))
+}
+
+// Whether a string of `bits` bits can be asked to become one of n bits with the syndrome a.
+fn keeps_repair_range(bits: usize, n: usize, a: usize) -> bool
+    requires { ⌜ bits ≤ 65536 ⌝ }
+    ensures { λ r. ⌜ r ≡ repairRange bits n a ⌝ }
+{
+    if 65536 < n {
+        return false;
+    }
+    if n < a {
+        return false;
+    }
+    if bits + 1 == n {
+        return true;
+    }
+    bits == n + 1
+}
+
+// The repair of a string of `bits` bits to one of n bits, one more or one less, that has the syndrome a.
+pub fn repair(s: &[u8], bits: usize, n: usize, a: usize, out: &mut [u8]) -> RepairAnswer
+    ensures { λ r. ⌜ saidRepair r (now (out .exit)) ≡ leaves (now (out .entry)) (repairCall (now (s .entry)) bits n a (length (now (out .entry)))) ⌝ }
+{
+    if !strings::keeps_string_rule(s, bits) {
+        return RepairAnswer::Refused(Refusal::BadString);
+    }
+    if !keeps_repair_range(bits, n, a) {
+        return RepairAnswer::Refused(Refusal::OutOfRange);
+    }
+    if out.len() < (n + 7) / 8 {
+        return RepairAnswer::Refused(Refusal::NoRoom);
+    }
+    let found = crate::places::find_repair(s, 0, bits, n, a);
+    match found {
+        Repair::Nothing => RepairAnswer::Nothing,
+        Repair::Found(e) => {
+            crate::edits::pack_edited(s, 0, bits, e, n, out);
+            RepairAnswer::Done
+        }
+    }
+}

@@ -1,0 +1,221 @@
+// Prints samples on standard output, which the gate compares with the stored stdout: outputs of Marsaglia's xorshift, rows and hashes,
+// the syndrome and every repair of each string of up to 8 bits, and calls that are turned down. The stored file is worked out from
+// document 01 by another program (docs/samples.py).
+ghost use Prim.Native.Nat.{_≤_, _<_};
+use codes::NumberAnswer;
+use codes::RepairAnswer;
+use libc::STDOUT_FILENO;
+use strings::Refusal;
+
+fn print(text: &[u8]) {
+    io::write_all(STDOUT_FILENO, text);
+}
+
+fn print_number(v: u64) {
+    print(b" ");
+    io::print_decimal(STDOUT_FILENO, v);
+}
+
+fn print_refusal(e: Refusal) {
+    print(b" R");
+    print_number(strings::refusal_number(e) as u64);
+}
+
+// The first n bits of b.
+fn print_bits(b: u8, n: u32)
+    requires { ⌜ n ≤ 8 ⌝ }
+{
+    print(b" ");
+    if n == 0 {
+        print(b"empty");
+    }
+    let mut i: u32 = 0;
+    while i < n {
+        if (b >> (7 - i)) % 2 == 1 {
+            print(b"1");
+        } else {
+            print(b"0");
+        }
+        i += 1;
+    }
+}
+
+// The rows 1 to `count` of a key: the outputs of xorshift from that seed.
+fn print_rows(key: u32, count: u32) {
+    let mut v = key;
+    let mut i: u32 = 0;
+    while i < count {
+        v = codes::step(v);
+        print_number(v as u64);
+        i += 1;
+    }
+    print(b"\n");
+}
+
+fn print_answer(r: NumberAnswer) {
+    match r {
+        NumberAnswer::Value(v) => print_number(v as u64),
+        NumberAnswer::Refused(e) => print_refusal(e),
+    }
+}
+
+// The repair of the first `bits` bits of b to n bits of syndrome a; 1 where there is one.
+fn print_repair(b: u8, bits: u32, n: u32, a: u32) -> u32
+    requires { ⌜ bits ≤ 8 ⌝ }
+    requires { ⌜ n ≤ 8 ⌝ }
+{
+    let s = [b; 1];
+    let mut out = [0u8; 1];
+    let size = ((bits + 7) / 8) as usize;
+    let r = codes::repair(&s[0..size], bits as usize, n as usize, a as usize, &mut out);
+    match r {
+        RepairAnswer::Done => {
+            print_bits(out[0], n);
+            1
+        }
+        RepairAnswer::Nothing => {
+            print(b" none");
+            0
+        }
+        RepairAnswer::Refused(e) => {
+            print_refusal(e);
+            0
+        }
+    }
+}
+
+// Every repair of the first `bits` bits of b to n bits; how many there are.
+fn print_repairs(b: u8, bits: u32, n: u32) -> u32
+    requires { ⌜ bits ≤ 8 ⌝ }
+    requires { ⌜ n ≤ 8 ⌝ }
+    ensures { λ r. ⌜ r ≤ 9 ⌝ }
+{
+    let mut found: u32 = 0;
+    let mut a: u32 = 0;
+    while a <= n {
+        if print_repair(b, bits, n, a) == 1 {
+            found += 1;
+        }
+        a += 1;
+    }
+    found
+}
+
+// Every put-in, which have at most 8 bits; how many there are.
+fn print_put_ins(b: u8, bits: u32) -> u32
+    requires { ⌜ bits ≤ 8 ⌝ }
+    ensures { λ r. ⌜ r ≤ 9 ⌝ }
+{
+    if bits == 8 {
+        return 0;
+    }
+    print_repairs(b, bits, bits + 1)
+}
+
+// A string, its syndrome, its put-ins and its take-outs, each for the syndromes in order; how many put-ins there are.
+fn print_string(b: u8, bits: u32) -> u32
+    requires { ⌜ bits ≤ 8 ⌝ }
+    ensures { λ r. ⌜ r ≤ 9 ⌝ }
+{
+    let s = [b; 1];
+    let size = ((bits + 7) / 8) as usize;
+    print_bits(b, bits);
+    print(b":");
+    print_answer(codes::syndrome(&s[0..size], bits as usize));
+    print(b";");
+    let found = print_put_ins(b, bits);
+    print(b";");
+    if 0 < bits {
+        print_repairs(b, bits, bits - 1);
+    }
+    print(b"\n");
+    found
+}
+
+// Every string of that many bits: as bytes, the multiples of `gap`. How many put-ins there are.
+fn print_strings(bits: u32, gap: u32) -> u32
+    requires { ⌜ bits ≤ 8 ⌝ }
+    requires { ⌜ 0 < gap ⌝ }
+    ensures { λ r. ⌜ r ≤ 2304 ⌝ }
+{
+    let mut found: u32 = 0;
+    let mut v: u32 = 0;
+    while v < 256 {
+        if v % gap == 0 {
+            found += print_string(v as u8, bits);
+        }
+        v += 1;
+    }
+    found
+}
+
+fn print_codes() {
+    let short = print_strings(0, 256)
+        + print_strings(1, 128)
+        + print_strings(2, 64)
+        + print_strings(3, 32);
+    let long = print_strings(4, 16)
+        + print_strings(5, 8)
+        + print_strings(6, 4)
+        + print_strings(7, 2);
+    print_strings(8, 1);
+    print(b"put-ins:");
+    print_number((short + long) as u64);
+    print(b"\n");
+}
+
+fn print_hashes() {
+    print(b"1011, h 8, key 1:");
+    print_answer(codes::hash(b"\xb0", 4, 8, 1));
+    print(b"\n010011000, h 8, key 1:");
+    print_answer(codes::hash(b"\x4c\x00", 9, 8, 1));
+    print(b"\nempty, h 32, key 4294967295:");
+    print_answer(codes::hash(b"", 0, 32, 4294967295));
+    print(b"\n1111111111111111, h 32, key 4294967295:");
+    print_answer(codes::hash(b"\xff\xff", 16, 32, 4294967295));
+    print(b"\n");
+}
+
+// A repair into a buffer of one byte.
+fn print_call(s: &[u8], bits: usize, n: usize, a: usize) {
+    let mut out = [0u8; 1];
+    let r = codes::repair(s, bits, n, a, &mut out);
+    match r {
+        RepairAnswer::Done => print(b" done"),
+        RepairAnswer::Nothing => print(b" none"),
+        RepairAnswer::Refused(e) => print_refusal(e),
+    }
+}
+
+fn print_refusals() {
+    let zeros = [0u8; 8192];
+    print(b"hash with h 7, h 33, key 0, a spare bit:");
+    print_answer(codes::hash(b"\xb0", 4, 7, 1));
+    print_answer(codes::hash(b"\xb0", 4, 33, 1));
+    print_answer(codes::hash(b"\xb0", 4, 8, 0));
+    print_answer(codes::hash(b"\xb1", 4, 8, 1));
+    print(b"\nsyndrome with a spare bit, a byte too many, one too few:");
+    print_answer(codes::syndrome(b"\xb1", 4));
+    print_answer(codes::syndrome(b"\xb0\x00", 4));
+    print_answer(codes::syndrome(b"\xb0", 9));
+    print(b"\nrepair of 1011 to 4 bits, to 6, to 5 with syndrome 5, with syndrome 6:");
+    print_call(b"\xb0", 4, 4, 0);
+    print_call(b"\xb0", 4, 6, 0);
+    print_call(b"\xb0", 4, 5, 5);
+    print_call(b"\xb0", 4, 5, 6);
+    print(b"\nrepair with a spare bit, to 65537 bits, to 9 bits in one byte:");
+    print_call(b"\xb1", 4, 6, 0);
+    print_call(&zeros, 65536, 65537, 0);
+    print_call(b"\xb0", 8, 9, 0);
+    print(b"\n");
+}
+
+fn main() {
+    print(b"xorshift from 2463534242:");
+    print_rows(2463534242, 10);
+    print(b"rows of key 1:");
+    print_rows(1, 9);
+    print_hashes();
+    print_codes();
+    print_refusals();
+}
