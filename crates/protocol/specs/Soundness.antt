@@ -1,0 +1,95 @@
+-- docs/STATE.md: the test for an unsound state (01, refusal 3). Every state from the calls passes it, and a state that passes is safe to go on from.
+use mathlib.Core.Bool.{Bool, true, false, cond, not, _&&_, _||_}
+use mathlib.Core.List.{List, [], _∷_}
+use Prim.Native.Nat.{ℕ, zero, suc, _+_, _-_, _*_, _/_, max}
+use lib.ListN.{length, getD}
+use lib.Dec.{leb, ltb, eqb}
+use Rattle.strings.specs.Bits.{bytesFor}
+use Rattle.protocol.specs.declared.Settings.{Settings}
+use Rattle.protocol.specs.declared.Piece.{Piece}
+use Rattle.protocol.specs.declared.Rebuilder.{Rebuilder}
+use Rattle.protocol.specs.declared.Holder.{Holder}
+use Rattle.protocol.specs.Limits.{withinLimits, between}
+use Rattle.protocol.specs.Segments.{tooSmall}
+use Rattle.protocol.specs.Counts.{bound}
+use Rattle.protocol.specs.Shape.{full}
+use Rattle.protocol.specs.States.{noPiece, held, top}
+
+-- ---- the holder
+-- fresh, with all fields 0, or opened, with its fields within their limits
+unfoldable pub holderSound : Holder → Bool
+holderSound st =
+    cond (eqb (st .opened) 0)
+    (eqb (st .bits) 0 && (eqb (st .h) 0 && (eqb (st .key) 0 && eqb (st .answers) 0)))
+    (eqb (st .opened) 1 && (leb (st .bits) 65536 && (between 8 (st .h) 32 && (leb 1 (st .key) && between 1 (st .answers) 1000000))))
+
+-- ---- the rebuilder's pieces
+unfoldable pub isBlank : Piece → Bool
+isBlank pc = eqb (pc .x) 0 && (eqb (pc .p) 0 && (eqb (pc .y) 0 && eqb (pc .q) 0))
+
+-- the k entries from index i on are zeros
+unfoldable pub blankFrom : List Piece → (k i : ℕ) → Bool
+blankFrom l zero i = true
+blankFrom l (suc k) i = isBlank (getD l i noPiece) && blankFrom l k (suc i)
+
+-- a waiting piece with d others to its right, of n bits of X and e of Y, not before x and y: it has bits, ends in time, and is not longer than splitting leaves
+unfoldable pub pieceFits : (n e x y d : ℕ) → Piece → Bool
+pieceFits n e x y d pc =
+    leb x (pc .x) && (leb y (pc .y) && (ltb 0 (pc .p) && (leb (pc .x + pc .p) n && (leb (pc .y + pc .q) e && leb (pc .p) (bound d)))))
+
+-- the waiting pieces, from the leftmost on, follow one another
+unfoldable pub inOrder : (n e x y : ℕ) → List Piece → Bool
+inOrder n e x y [] = true
+inOrder n e x y (pc ∷ l) = pieceFits n e x y (length l) pc && inOrder n e (pc .x + pc .p) (pc .y + pc .q) l
+
+-- how many rows and questions the waiting pieces can still take, each at its first stage
+unfoldable pub rowsLeft : ℕ → List Piece → ℕ
+rowsLeft m [] = 0
+rowsLeft m (pc ∷ l) = 2 * (pc .p / m) + 1 + rowsLeft m l
+
+unfoldable pub asksLeft : ℕ → List Piece → ℕ
+asksLeft m [] = 0
+asksLeft m (pc ∷ l) = 9 * (pc .p / m) + 5 + asksLeft m l
+
+-- the leftmost piece's stage suits its lengths
+unfoldable pub stageFits : Settings → (p q j : ℕ) → Bool
+stageFits S p q j =
+    cond (eqb j 0) (eqb q p || (eqb (q + 1) p || eqb q (p + 1)))
+    (leb j 4 && (eqb j 4 || not (tooSmall S p q)))
+
+unfoldable pub stackSound : Rebuilder → Bool
+stackSound st =
+    cond (eqb (st .waiting) 0) (eqb (st .stage) 0) (stageFits (st .settings) (top st .p) (top st .q) (st .stage))
+    && (inOrder (st .n) (st .ybits) 0 0 (held (st .waiting) (st .pieces))
+    && leb (st .rows + rowsLeft (st .settings .m) (held (st .waiting) (st .pieces))) (2 * (st .n / st .settings .m) + 1))
+
+-- ---- by phase
+unfoldable pub openingSound : Rebuilder → Bool
+openingSound st =
+    eqb (st .n) 0 && (eqb (st .answered) 0 && (eqb (st .counted) 0 && (eqb (st .rows) 0 && (eqb (st .stage) 0 && eqb (st .waiting) 0))))
+
+-- the count is past the ceiling only where nothing waits; what may still be asked is within the bound (at stage j the leftmost piece has j questions less to come)
+unfoldable pub piecesSound : Rebuilder → Bool
+piecesSound st =
+    stackSound st
+    && (leb 1 (st .answered)
+    && (leb (st .answered + asksLeft (st .settings .m) (held (st .waiting) (st .pieces))) (9 * (st .n / st .settings .m) + 6 + st .stage)
+    && leb (st .counted) (cond (eqb (st .waiting) 0) (st .settings .ceiling + full (st .n) + max 9 (full (st .n))) (st .settings .ceiling))))
+
+-- the count is past the ceiling, and pieces wait
+unfoldable pub wholeSound : Rebuilder → Bool
+wholeSound st =
+    stackSound st
+    && (leb 1 (st .answered)
+    && (leb (st .answered + 1) (9 * (st .n / st .settings .m) + 6)
+    && (ltb 0 (st .waiting)
+    && (ltb (st .settings .ceiling) (st .counted) && leb (st .counted) (st .settings .ceiling + max 9 (full (st .n)))))))
+
+unfoldable pub sound : Rebuilder → Bool
+sound st =
+    withinLimits (st .settings)
+    && (leb (st .ybits) 65536
+    && (leb (st .n) 65536
+    && (leb (st .waiting) 32
+    && (blankFrom (st .pieces) (32 - st .waiting) (st .waiting)
+    && cond (eqb (st .phase) 0) (openingSound st) (cond (eqb (st .phase) 1) (piecesSound st) (eqb (st .phase) 2 && wholeSound st))))))

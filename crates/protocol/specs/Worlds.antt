@@ -1,0 +1,169 @@
+-- 01, demand 3: lists of calls to a fresh holder and a fresh rebuilder, and what is claimed of them.
+use mathlib.Core.Path.{_≡_, refl, sym, ap, ap₂, _∙_, subst}
+use mathlib.Core.Bool.{Bool, true, false, cond, not, _&&_, _||_}
+use mathlib.Core.Logic.{_⊎_, inl, inr}
+use mathlib.Core.List.{List, [], _∷_, _++_, append-assoc, append-nil}
+use mathlib.Core.Option.{Option, none, some}
+use Prim.Native.Nat.{ℕ, zero, suc, _+_, _-_, _*_, _/_, _%_, _^_, max, min, _≤_, _<_}
+use native.Mathlib.Nat.{zero-add, add-zero, add-assoc, mod-lt, div-mul-le-self, le-div-iff-mul-le, le-refl, le-trans, div-le-self}
+use native.Mathlib.Numerals.{add-one}
+use native.Mathlib.Omega.{arith}
+use native.Mathlib.Decide.{ℕ-discrete, decLt, decLe}
+use lib.ListN.{set, replicate, length-set, length-replicate, drop-of-length-le, length, take, drop, getD, take-append-drop, length-append, length-take, length-drop, List·getD-append}
+use lib.Seq.{take-at, drop-at, drop-append-add, getD-set-same, getD-set-other, length-sets, sets, sets-eq, append-snoc, ext-getD, drop-drop, take-take, getD-append-add, getD-take, getD-drop, take-all, length-take-le}
+use lib.Dec.{leb, ltb, eqb, lit≤}
+use borrow.Author.Tests.{eqb-true, eqb-false, eq-eqb, ltb-true, ltb-false, leb-true, leb-false, le-leb, lt-leb, lt-ltb, le-ltb, ne-eqb}
+use Rattle.messages.specs.Answers.{Answer, answerBytes}
+use Rattle.messages.specs.Questions.{questionBytes, readQuestion}
+use Rattle.messages.specs.declared.Question.{Question}
+use Rattle.messages.specs.declared.QuestionRead.the-variants.{Asked}
+use Rattle.protocol.specs.Anchors.{part}
+use Rattle.protocol.specs.Counts.{isWait}
+use Rattle.protocol.specs.HolderCall.{Heard, declines, freshHolder, holderCall, replies}
+use Rattle.protocol.specs.Kept.{At, Finished}
+use Rattle.protocol.specs.RebuilderCall.{Rooms, Step, Taken, rebuilderCall, rebuilderStart, refuses, sheetAfter, starts, stringAfter, takes, writtenQuestion}
+use Rattle.protocol.specs.Right.{Settled}
+use Rattle.protocol.specs.Runs.{Honest, copies, piecesOf, question, run, sheetOf, string, told}
+use Rattle.protocol.specs.SegmentLaws.{total}
+use Rattle.protocol.specs.Segments.{asks, settled, waiting}
+use Rattle.protocol.specs.Shape.{full}
+use Rattle.protocol.specs.declared.Holder.{Holder}
+use Rattle.protocol.specs.declared.How.{How}
+use Rattle.protocol.specs.declared.Rebuilder.{Rebuilder}
+use Rattle.protocol.specs.declared.Row.{Row}
+use Rattle.protocol.specs.declared.Settings.{Settings}
+use Rattle.strings.specs.Bits.{bytesFor, range}
+use Rattle.strings.specs.StringRule.{stringRule}
+
+-- ---- 01, demand 3: lists of calls
+-- a call on any message
+pub data Call : Type 0 where
+  toHolder : List ℕ → Call
+  toRebuilder : List ℕ → Call
+
+-- what stays the same: the settings; X, Y and their bit counts as lent; the lent bytes of reply and question buffer
+pub record Lent : Type 0 where
+  pub settings : Settings
+  pub x : List ℕ
+  pub xbits : ℕ
+  pub y : List ℕ
+  pub ybits : ℕ
+  pub replyRoom : ℕ
+  pub questionRoom : ℕ
+
+-- both states, the string buffer and the sheet, the question last written (empty: none waits), and the messages that each end took, the last one first
+pub data World : Type 0 where
+  world : Holder → Rebuilder → (string : List ℕ) → (sheet : List Row) → (question : List ℕ) → (heard taken : List (List ℕ)) → World
+
+-- each call gets the state that its end's last taken call returned; string and sheet are as the last taken call left them
+abbrev pub afterHeard : World → List ℕ → Heard → World
+afterHeard (world H r bs sh q hs ts) m (declines e) = world H r bs sh q hs ts
+afterHeard (world H r bs sh q hs ts) m (replies H′ b) = world H′ r bs sh q (m ∷ hs) ts
+
+abbrev pub afterTaken : World → List ℕ → Taken → World
+afterTaken (world H r bs sh q hs ts) m (refuses e) = world H r bs sh q hs ts
+afterTaken (world H r bs sh q hs ts) m (takes s q′) = world H (s .state) (stringAfter bs (s .string)) (sheetAfter sh (s .sheet)) q′ hs (m ∷ ts)
+
+abbrev pub roomsOf : Lent → List ℕ → List Row → Rooms
+roomsOf c bs sh = record { string = length bs; sheet = length sh; question = c .questionRoom }
+
+abbrev pub stepWorld : Lent → World → Call → World
+stepWorld c (world H r bs sh q hs ts) (toHolder m) = afterHeard (world H r bs sh q hs ts) m (holderCall H (c .x) (c .xbits) m (c .replyRoom))
+stepWorld c (world H r bs sh q hs ts) (toRebuilder m) = afterTaken (world H r bs sh q hs ts) m (rebuilderCall r (c .y) (c .ybits) m (roomsOf c bs sh))
+
+-- the calls, the last one first, from a world
+abbrev pub worldAfter : Lent → World → List Call → World
+worldAfter c w [] = w
+worldAfter c w (k ∷ ks) = stepWorld c (worldAfter c w ks) k
+
+-- the holder begins with a fresh state, the rebuilder with the state and question that its start gave
+abbrev pub firstWorld : Rebuilder → List ℕ → (string : List ℕ) → (sheet : List Row) → World
+firstWorld r q bs sh = world freshHolder r bs sh q [] []
+
+abbrev pub bitsOfX : Lent → List Bool
+bitsOfX c = range (c .x) 0 (c .xbits)
+
+abbrev pub bitsOfY : Lent → List Bool
+bitsOfY c = range (c .y) 0 (c .ybits)
+
+-- "The holder's answer to it is the message that "Messages" gives for X under the opening that the rebuilder wrote"
+abbrev pub AnswerTo : Lent → (question m : List ℕ) → Type 0
+AnswerTo c w m = (q : Question) × (readQuestion w (c .xbits) ≡ Asked q) × (m ≡ answerBytes (told (c .settings) (bitsOfX c) q))
+
+-- "Lists in which the rebuilder takes any other message are left out"
+abbrev pub FairCall : Lent → World → Call → Type 0
+FairCall c (world H r bs sh q hs ts) (toHolder m) = Unit {0}
+FairCall c (world H r bs sh q hs ts) (toRebuilder m) = (s : Step) (q′ : List ℕ) → rebuilderCall r (c .y) (c .ybits) m (roomsOf c bs sh) ≡ takes s q′ → AnswerTo c q m
+
+abbrev pub Fair : Lent → World → List Call → Type 0
+Fair c w [] = Unit {0}
+Fair c w (k ∷ ks) = Fair c w ks × FairCall c (worldAfter c w ks) k
+
+-- ---- what is claimed
+-- the messages of the answers taken
+abbrev pub sent : List Answer → List (List ℕ)
+sent [] = []
+sent (a ∷ l) = answerBytes a ∷ sent l
+
+-- the bytes of the answers taken but the opening's
+abbrev pub countedBytes : List (List ℕ) → ℕ
+countedBytes [] = 0
+countedBytes (m ∷ []) = 0
+countedBytes (m ∷ k ∷ l) = length m + countedBytes (k ∷ l)
+
+abbrev pub Member : List ℕ → List (List ℕ) → Type 0
+Member m [] = ⊥
+Member m (x ∷ l) = (x ≡ m) ⊎ Member m l
+
+-- q was asked before the last of the answers was taken
+abbrev pub Earlier : Settings → List Bool → List Answer → Question → Type 0
+Earlier S Y [] q = ⊥
+Earlier S Y (a ∷ l) q = (question S (run S Y l) ≡ some q) ⊎ Earlier S Y l q
+
+-- "a holder that had taken each earlier question once and nothing else": it took as many messages as there were questions, and each is one of them
+pub record OnceEach (S : Settings) (Y : List Bool) (l : List Answer) (hs : List (List ℕ)) : Type 0 where
+  pub many : length hs ≡ length l
+  pub each : (m : List ℕ) → Member m hs → (q : Question) × Earlier S Y l q × (m ≡ questionBytes q)
+
+-- Demand 3 of a world; l are the answers that the rebuilder took, the last one first
+pub record Demand3 (c : Lent) (H : Holder) (r : Rebuilder) (bs : List ℕ) (sh : List Row) (waiting : List ℕ) (hs ts : List (List ℕ)) (l : List Answer) : Type 0 where
+  -- the messages that the rebuilder took are these answers, each the holder's
+  pub messages : ts ≡ sent l
+  pub honest : Honest (c .settings) (bitsOfX c) (bitsOfY c) l
+  -- the question waiting is the one that 01's steps give from n, Y, the settings and the answers taken; after the finish none waits
+  pub asks : waiting ≡ writtenQuestion (question (c .settings) (run (c .settings) (bitsOfY c) l))
+  -- the holder's answer to it is not refused by the rebuilder
+  pub accepts : (q : Question) → question (c .settings) (run (c .settings) (bitsOfY c) l) ≡ some q
+      → (s : Step) × (q′ : List ℕ) × (rebuilderCall r (c .y) (c .ybits) (answerBytes (told (c .settings) (bitsOfX c) q)) (roomsOf c bs sh) ≡ takes s q′)
+  -- "A holder that had taken each earlier question once and nothing else replies exactly this"
+  pub replied : (q : Question) → question (c .settings) (run (c .settings) (bitsOfY c) l) ≡ some q → OnceEach (c .settings) (bitsOfY c) l hs
+      → (H′ : Holder) × (holderCall H (c .x) (c .xbits) (questionBytes q) (c .replyRoom) ≡ replies H′ (answerBytes (told (c .settings) (bitsOfX c) q)))
+  -- questions answered: the answers taken, the opening's among them
+  pub answered : r .answered ≡ length ts
+  pub questions : length ts ≤ 10 * (c .xbits / c .settings .m) + 6
+  -- the count: the bytes of the answers taken but the opening's
+  pub counted : r .counted ≡ countedBytes ts
+  pub bytes : countedBytes ts ≤ c .settings .ceiling + full (c .xbits) + max 9 (full (c .xbits))
+  -- "At most 32 pieces ever wait"
+  pub few : total isWait (piecesOf (run (c .settings) (bitsOfY c) l)) ≤ 32
+  -- the string buffer has the settled pieces' bits, zeros for what waits; the used rows of the sheet are the settled pieces' in order of settling
+  pub string : range bs 0 (r .n) ≡ string (piecesOf (run (c .settings) (bitsOfY c) l))
+  pub sheet : take (r .rows) sh ≡ sheetOf (run (c .settings) (bitsOfY c) l)
+  pub rows : length (sheetOf (run (c .settings) (bitsOfY c) l)) ≤ 2 * (c .xbits / c .settings .m) + 1
+  -- the copies of the pieces are together Y
+  pub copied : (piecesOf (run (c .settings) (bitsOfY c) l) ≡ []) ⊎ (copies (piecesOf (run (c .settings) (bitsOfY c) l)) ≡ bitsOfY c)
+  -- a settled piece has X's length, X's bits or X's hash (and syndrome), and X's bits where its copy is X's piece unchanged, with one bit lost or with one bit added
+  pub settled : (x : ℕ) (w : How) (ys b : List Bool) → At 0 (piecesOf (run (c .settings) (bitsOfY c) l)) x (settled w ys b) → Settled (c .settings) (part (bitsOfX c) x (length b)) w ys b
+  -- at the finish each bit is X's, or lies in a settled piece whose bits differ from X's though length and hash agree; the rows cover each bit of X exactly once
+  pub finish : question (c .settings) (run (c .settings) (bitsOfY c) l) ≡ none → Finished (c .settings) (bitsOfX c) (run (c .settings) (bitsOfY c) l) × (r .n ≡ c .xbits)
+
+-- X and Y keep the string rule, the start was not turned down, and all buffers are long enough
+pub record Supposed (c : Lent) (r : Rebuilder) (q : List ℕ) (bs : List ℕ) (sh : List Row) : Type 0 where
+  pub reference : stringRule (c .x) (c .xbits) ≡ true
+  pub started : rebuilderStart (c .settings) (c .y) (c .ybits) (c .questionRoom) ≡ starts r q
+  pub reply : max 9 (full (c .xbits)) ≤ c .replyRoom
+  pub string : bytesFor (c .xbits) ≤ length bs
+  pub sheet : 2 * (c .xbits / c .settings .m) + 1 ≤ length sh
+
+abbrev pub Delivered : Lent → World → Type 0
+Delivered c (world H r bs sh q hs ts) = (l : List Answer) × Demand3 c H r bs sh q hs ts l
