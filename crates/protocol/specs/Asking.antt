@@ -81,7 +81,7 @@ asks-planned S yb st bs sh s h = go (st .phase) refl
         (sym (ap (askStore S) (h .is) ∙ ap (λ (k : ℕ). askStore S (store (numberedPhase k) (st .n) (st .counted) (stageHeld S (st .stage) (held (st .waiting) (st .pieces))) (held (st .waiting) (st .pieces)) (range bs 0 (st .n)) (h .rows))) e))
 
 -- ---- what a reader lets through is proper, and the holder's answers are read
-proper-of : (S : Settings) (q : Question) (a : Answer) → Passes (questionKind q) (questionLength q) (S .h) a → Proper S q a
+pub proper-of : (S : Settings) (q : Question) (a : Answer) → Passes (questionKind q) (questionLength q) (S .h) a → Proper S q a
 proper-of S (AskOpen h key) (sizeAnswer n) p = p .values
 proper-of S (AskOpen h key) (hashAnswer v) p = let e = p .of-kind in let z : _≡_ {A = ℕ} 0 1 = cc in absurd (omega arith)
 proper-of S (AskOpen h key) (syndromeAnswer a v) p = let e = p .of-kind in let z : _≡_ {A = ℕ} 0 1 = cc in absurd (omega arith)

@@ -27,3 +27,5 @@ pub mod Worlds
 pub mod HolderLaws
 pub mod Delivery
 pub mod Theorem
+pub mod Samples
+pub mod Demo

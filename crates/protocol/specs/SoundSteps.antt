@@ -456,7 +456,7 @@ opening-is st e =
     let f = both (eqb (st .stage) 0) _ (d .1) in
     record { answered = eqb-true (st .answered) 0 (b .0); waiting = eqb-true (st .waiting) 0 (f .1) }
 
-opening-sound : (st : Rebuilder) (n : ℕ) → length (st .pieces) ≡ 32 → Framed st → OpeningIs st → n ≤ 65536 → Sound′ (openingStep st n .state)
+pub opening-sound : (st : Rebuilder) (n : ℕ) → length (st .pieces) ≡ 32 → Framed st → OpeningIs st → n ≤ 65536 → Sound′ (openingStep st n .state)
 unfolding openingStep restaged
 opening-sound st n arr f k h =
     let st′ : Rebuilder = record {
@@ -494,7 +494,7 @@ opening-sound st n arr f k h =
     )
 
 -- the whole string's answer
-whole-sound : (st : Rebuilder) (size : ℕ) (l : List Bool) → Framed st → WholeIs st → size ≤ full (st .n) → Sound′ (wholeStep st size l .state)
+pub whole-sound : (st : Rebuilder) (size : ℕ) (l : List Bool) → Framed st → WholeIs st → size ≤ full (st .n) → Sound′ (wholeStep st size l .state)
 unfolding wholeStep topFits rowsLeft asksLeft
 whole-sound st size l f k h =
     let s : Rebuilder = record {
