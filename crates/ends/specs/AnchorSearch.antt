@@ -1,0 +1,72 @@
+-- The anchor search (01, "The rebuilder": "An anchor at offset s is placed at r .."). Where an anchor is placed is defined in protocol, Anchors.
+use mathlib.Core.Bool.{Bool, _&&_}
+use mathlib.Core.List.{List}
+use mathlib.Core.Option.{Option, none, some}
+use Prim.Native.Nat.{ℕ, _+_, _-_, _*_, _/_, _≤_, min}
+use lib.ListN.{length}
+use lib.Dec.{leb}
+use Rattle.strings.specs.Bits.{range}
+use Rattle.strings.specs.StringRule.{stringRule}
+use Rattle.strings.specs.Refusals.{refusalNumber}
+use Rattle.codes.specs.Entries.{Answer, refusal, value, unless}
+use Rattle.protocol.specs.Limits.{between}
+use Rattle.protocol.specs.Anchors.{place}
+use Rattle.ends.specs.declared.anchor.Place.{Place}
+use Rattle.ends.specs.declared.anchor.Place.the-variants.{At, Nowhere}
+use Rattle.ends.specs.declared.anchor.AnchorAnswer.{AnchorAnswer}
+use Rattle.ends.specs.declared.anchor.AnchorAnswer.the-variants.{Placed, NoPlace, Refused}
+
+-- ---- the search inside the rebuilder's call
+-- both ranges are there, and all numbers are within their limits; the anchor may stand in a message
+pub record Ready (y : List ℕ) (start q p s m k : ℕ) (a : List ℕ) (at : ℕ) : Type 0 where
+  pub piece : start + q ≤ 8 * length y
+  pub few : start + q ≤ 65536
+  pub length-most : p ≤ 65536
+  pub offset-most : s ≤ 65536
+  pub m-most : m ≤ 64
+  pub k-most : k ≤ 8
+  pub anchor : at + m ≤ 8 * length a
+  pub anchor-few : at + m ≤ 100000
+
+-- what the code's answer is for a place and for none
+abbrev pub placeIn : Option ℕ → Place
+placeIn none = Nowhere
+placeIn (some r) = At r
+
+-- ---- the places that the code looks at; AnchorSearchLaws says that all others of 0 to q - m are too far
+-- one past the last place with 2r + p ≤ due + reach and room for m bits, where due is 2s + q
+unfoldable pub windowEnd : (q m p due reach : ℕ) → ℕ
+windowEnd q m p due reach = min (q + 1 - m) ((due + reach + 2 - p) / 2)
+
+-- the first place with due ≤ 2r + p + reach, or end
+unfoldable pub windowStart : (p due reach end : ℕ) → ℕ
+windowStart p due reach end = min end ((due + 1 - (p + reach)) / 2)
+
+-- the sums that give the window fit in a machine number
+pub record Small (p due reach : ℕ) : Type 0 where
+  pub piece : p ≤ 65536
+  pub centre : due ≤ 196608
+  pub width : reach ≤ 1048576
+
+-- ---- the search as a host calls it, on the copy y of that many bits and a string a as the anchor
+-- anchor m 8 to 64 bits; window factor k 1 to 8
+unfoldable pub anchorSettings : (m k : ℕ) → Bool
+anchorSettings m k = between 8 m 64 && between 1 k 8
+
+-- the copy's piece ends by the copy's bit count, the piece of p bits is no longer than a string, and the anchor's offset is not past p - m
+unfoldable pub anchorRange : (bits start q p s m : ℕ) → Bool
+anchorRange bits start q p s m = leb (start + q) bits && (leb p 65536 && leb (s + m) p)
+
+-- 1; 2 for either string; 8; else the place, or none
+unfoldable pub anchorSearch : (y : List ℕ) (bits start q p s m k : ℕ) (a : List ℕ) → Answer (Option ℕ)
+anchorSearch y bits start q p s m k a =
+    unless (anchorSettings m k) 1 (
+    unless (stringRule y bits && stringRule a m) 2 (
+    unless (anchorRange bits start q p s m) 8 (
+    value (place m k p s (range y start q) (range a 0 m)))))
+
+-- what each case of the code's answer says
+abbrev pub saidAnchor : AnchorAnswer → Answer (Option ℕ)
+saidAnchor (Placed r) = value (some r)
+saidAnchor NoPlace = value none
+saidAnchor (Refused e) = refusal (refusalNumber e)

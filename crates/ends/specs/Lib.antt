@@ -1,0 +1,11 @@
+-- What the functions of the two ends require, and laws for their proofs.
+pub mod AnchorSearch
+pub mod AnchorSearchLaws
+pub mod StateCode
+pub mod SoundCode
+pub mod SoundLaws
+pub mod HolderCode
+pub mod HolderCodeLaws
+pub mod RebuilderCode
+pub mod RebuilderCodeLaws
+pub mod RebuilderCallLaws
