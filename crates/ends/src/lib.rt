@@ -23,5 +23,4 @@ pub use rebuilder::rebuilder_call;
 pub use rebuilder::rebuilder_start;
 pub use sound::holder_is_sound;
 pub use sound::rebuilder_is_sound;
-pub use sound::settings_within_limits;
 pub use state::Plan;

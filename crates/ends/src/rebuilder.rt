@@ -19,9 +19,7 @@ ghost use Rattle.protocol.specs.RebuilderCall.{tallied, stepOf, questionLength,
 ghost use Rattle.ends.specs.RebuilderCode.{OutIs, refusal, Acting, Splitting, Lending, OneApart, repairHow, trialStep, saidRebuilder, leavesRebuilder, stepTaken, WholeDue, Opening, BitsDue, dueLength, Due, answerRoom, heardStep, rooms, noRebuilder, saidStart, leavesStart};
 ghost use Rattle.ends.specs.declared.rebuilder.StartAnswer.the-variants.{NotBegun};
 use crate::anchor::Place;
-use crate::sound::both;
 use crate::sound::rebuilder_is_sound;
-use crate::sound::settings_within_limits;
 use crate::state::Plan;
 use codes::Edit;
 use codes::Repair;
@@ -34,6 +32,7 @@ use protocol::Rebuilder;
 use protocol::Row;
 use protocol::Settings;
 use protocol::SheetChange;
+use protocol::both;
 use strings::Refusal;
 
 // What a start gives: the length of the opening question, or why it is turned down.
@@ -525,7 +524,7 @@ fn not_begun(e: Refusal) -> StartOut
 pub fn rebuilder_start(settings: Settings, y: &[u8], bits: usize, question: &mut [u8]) -> StartOut
     ensures { λ r. ⌜ saidStart r (now (question .exit)) ≡ leavesStart (now (question .entry)) (rebuilderStart settings (now (y .entry)) bits (length (now (question .entry)))) ⌝ }
 {
-    if !settings_within_limits(settings) {
+    if !settings.is_within_limits() {
         return not_begun(Refusal::BadSetting);
     }
     if !strings::keeps_string_rule(y, bits) {

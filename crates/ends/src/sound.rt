@@ -18,34 +18,8 @@ use protocol::Holder;
 use protocol::Piece;
 use protocol::Rebuilder;
 use protocol::Settings;
-
-// Both are true.
-pub fn both(a: bool, b: bool) -> bool
-    ensures { λ r. ⌜ r ≡ (a && b) ⌝ }
-{
-    if a {
-        return b;
-    }
-    false
-}
-
-// Whether v is lo to hi.
-pub fn is_between(lo: u32, v: u32, hi: u32) -> bool
-    ensures { λ r. ⌜ r ≡ between lo v hi ⌝ }
-{
-    both(lo <= v, v <= hi)
-}
-
-// Whether the settings are within their limits.
-pub fn settings_within_limits(s: Settings) -> bool
-    ensures { λ r. ⌜ r ≡ withinLimits s ⌝ }
-{
-    let rest = both(is_between(1, s.key, 4294967295), s.ceiling <= 16384);
-    both(
-        is_between(8, s.m, 64),
-        both(is_between(8, s.h, 32), both(is_between(1, s.k, 8), rest)),
-    )
-}
+use protocol::both;
+use protocol::is_between;
 
 // Whether a run can hold the holder's state.
 pub fn holder_is_sound(st: Holder) -> bool
@@ -306,7 +280,7 @@ pub fn phase_is_sound(st: Rebuilder) -> bool
 pub fn rebuilder_is_sound(st: Rebuilder) -> bool
     ensures { λ r. ⌜ r ≡ sound st ⌝ }
 {
-    if !settings_within_limits(st.settings) {
+    if !st.settings.is_within_limits() {
         return false;
     }
     if 65536 < st.ybits {

@@ -1,8 +1,8 @@
 // What the two ends are to do: the settings, the states and the sheet's rows, with the definitions and theorems of specs/.
 ghost use mathlib.Core.Path.{_≡_};
-ghost use mathlib.Core.Bool.{Bool, true, false};
+ghost use mathlib.Core.Bool.{Bool, true, false, _&&_};
 ghost use Prim.Native.Nat.{ℕ, _≤_};
-ghost use Rattle.protocol.specs.Limits.{houseSettings, withinLimits};
+ghost use Rattle.protocol.specs.Limits.{houseSettings, withinLimits, between};
 
 // 01, "Strings and settings": anchor m, hash h, window factor k, key, ceiling.
 pub struct Settings {
@@ -48,6 +48,37 @@ impl Settings {
             ceiling: ceiling,
         }
     }
+
+    // Whether each is within its limits.
+    pub fn is_within_limits(self) -> bool
+        ensures { λ r. ⌜ r ≡ withinLimits self ⌝ }
+    {
+        let rest = both(is_between(1, self.key, 4294967295), self.ceiling <= 16384);
+        both(
+            is_between(8, self.m, 64),
+            both(
+                is_between(8, self.h, 32),
+                both(is_between(1, self.k, 8), rest),
+            ),
+        )
+    }
+}
+
+// Both are true.
+pub fn both(a: bool, b: bool) -> bool
+    ensures { λ r. ⌜ r ≡ (a && b) ⌝ }
+{
+    if a {
+        return b;
+    }
+    false
+}
+
+// Whether v is lo to hi.
+pub fn is_between(lo: u32, v: u32, hi: u32) -> bool
+    ensures { λ r. ⌜ r ≡ between lo v hi ⌝ }
+{
+    both(lo <= v, v <= hi)
 }
 
 // How a row's piece was settled; specs/Segments.antt has the numbers, 1 to 5 in this order.

@@ -9,7 +9,7 @@ use Rattle.ends.proofs.rebuilder.has_room.Statement.{statement}
 use Rattle.ends.proofs.rebuilder.has_room.Tie as tie
 use Rattle.ends.proofs.rebuilder.has_room.Reads as reads
 use Rattle.ends.proofs.rebuilder.has_room.Lts as lts
-use Rattle.ends.proofs.sound.both.Reads as both-reads
+use Rattle.protocol.proofs.both.Reads as both-reads
 
 -- src/rebuilder.rt:364:21
 div-most : tie.Need-div-most

@@ -11,7 +11,7 @@ use Rattle.ends.proofs.rebuilder.rebuilder_call.Reads as reads
 use Rattle.ends.proofs.rebuilder.rebuilder_call.Lts as lts
 use Rattle.ends.proofs.rebuilder.hear.Reads as hear-reads
 use Rattle.ends.proofs.rebuilder.refuse.Reads as refuse-reads
-use Rattle.ends.proofs.sound.both.Reads as both-reads
+use Rattle.protocol.proofs.both.Reads as both-reads
 use Rattle.ends.proofs.sound.rebuilder_is_sound.Reads as rebuilder-is-sound-reads
 use Rattle.ends.proofs.state.plan_next.Reads as plan-next-reads
 use Rattle.strings.proofs.keeps_string_rule.Reads as keeps-string-rule-reads

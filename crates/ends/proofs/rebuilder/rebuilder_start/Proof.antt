@@ -8,14 +8,14 @@ use Rattle.ends.proofs.rebuilder.rebuilder_start.Tie as tie
 use Rattle.ends.proofs.rebuilder.rebuilder_start.Reads as reads
 use Rattle.ends.proofs.rebuilder.rebuilder_start.Lts as lts
 use Rattle.ends.proofs.rebuilder.not_begun.Reads as not-begun-reads
-use Rattle.ends.proofs.sound.settings_within_limits.Reads as settings-within-limits-reads
+use Rattle.protocol.proofs.Settings.is_within_limits.Reads as is-within-limits-reads
 use Rattle.ends.proofs.state.fresh_rebuilder.Reads as fresh-rebuilder-reads
 use Rattle.messages.proofs.write_question.Reads as write-question-reads
 use Rattle.strings.proofs.keeps_string_rule.Reads as keeps-string-rule-reads
 
 -- src/rebuilder.rt:480:9
-settings-within-limits-requires : tie.Need-settings-within-limits-requires
-settings-within-limits-requires c κs = search needs
+is-within-limits-requires : tie.Need-is-within-limits-requires
+is-within-limits-requires c κs = search needs
 
 -- src/rebuilder.rt:481:9
 not-begun-requires : tie.Need-not-begun-requires
@@ -23,7 +23,7 @@ not-begun-requires c κs = search needs
 
 -- src/rebuilder.rt:481:9
 returns : tie.Need-returns
-returns c = start-refused (c .before .before .before .before .before .args .settings) (c .before .before .before .before .before .args .y .now) (c .before .before .before .before .before .args .bits) (c .before .before .before .before .before .args .question .now) _ (c .not-begun .ensures) (start-bad-setting (c .before .before .before .before .before .args .settings) (c .before .before .before .before .before .args .y .now) (c .before .before .before .before .before .args .bits) (c .before .before .before .before .before .args .question .now) (sym (c .before .before .settings-within-limits .ensures) ∙ not-true _ (c .before .if1 .taken)))
+returns c = start-refused (c .before .before .before .before .before .args .settings) (c .before .before .before .before .before .args .y .now) (c .before .before .before .before .before .args .bits) (c .before .before .before .before .before .args .question .now) _ (c .not-begun .ensures) (start-bad-setting (c .before .before .before .before .before .args .settings) (c .before .before .before .before .before .args .y .now) (c .before .before .before .before .before .args .bits) (c .before .before .before .before .before .args .question .now) (sym (c .before .before .is-within-limits .ensures) ∙ not-true _ (c .before .if1 .taken)))
 
 -- src/rebuilder.rt:483:9
 keeps-string-rule-requires : tie.Need-keeps-string-rule-requires
@@ -35,7 +35,7 @@ not-begun-requires-2 c κs = search needs
 
 -- src/rebuilder.rt:484:9
 returns-2 : tie.Need-returns-2
-returns-2 c = start-refused (c .before .before .before .before .before .before .before .args .settings) (c .before .before .before .before .before .before .before .args .y .now) (c .before .before .before .before .before .before .before .args .bits) (c .before .before .before .before .before .before .before .args .question .now) _ (c .not-begun2 .ensures) (start-bad-string (c .before .before .before .before .before .before .before .args .settings) (c .before .before .before .before .before .before .before .args .y .now) (c .before .before .before .before .before .before .before .args .bits) (c .before .before .before .before .before .before .before .args .question .now) (sym (c .before .before .before .before .settings-within-limits .ensures) ∙ not-false _ (c .before .before .before .if1 .left)) (sym (c .before .before .keeps-string-rule .ensures) ∙ not-true _ (c .before .if2 .taken)))
+returns-2 c = start-refused (c .before .before .before .before .before .before .before .args .settings) (c .before .before .before .before .before .before .before .args .y .now) (c .before .before .before .before .before .before .before .args .bits) (c .before .before .before .before .before .before .before .args .question .now) _ (c .not-begun2 .ensures) (start-bad-string (c .before .before .before .before .before .before .before .args .settings) (c .before .before .before .before .before .before .before .args .y .now) (c .before .before .before .before .before .before .before .args .bits) (c .before .before .before .before .before .before .before .args .question .now) (sym (c .before .before .before .before .is-within-limits .ensures) ∙ not-false _ (c .before .before .before .if1 .left)) (sym (c .before .before .keeps-string-rule .ensures) ∙ not-true _ (c .before .if2 .taken)))
 
 -- src/rebuilder.rt:487:9
 not-begun-requires-3 : tie.Need-not-begun-requires-3
@@ -43,7 +43,7 @@ not-begun-requires-3 c κs = search needs
 
 -- src/rebuilder.rt:487:9
 returns-3 : tie.Need-returns-3
-returns-3 c = start-refused (c .before .before .before .before .before .before .before .before .args .settings) (c .before .before .before .before .before .before .before .before .args .y .now) (c .before .before .before .before .before .before .before .before .args .bits) (c .before .before .before .before .before .before .before .before .args .question .now) _ (c .not-begun3 .ensures) (start-no-room (c .before .before .before .before .before .before .before .before .args .settings) (c .before .before .before .before .before .before .before .before .args .y .now) (c .before .before .before .before .before .before .before .before .args .bits) (c .before .before .before .before .before .before .before .before .args .question .now) (sym (c .before .before .before .before .before .settings-within-limits .ensures) ∙ not-false _ (c .before .before .before .before .if1 .left)) (sym (c .before .before .before .keeps-string-rule .ensures) ∙ not-false _ (c .before .before .if2 .left)) (c .before .if3 .taken))
+returns-3 c = start-refused (c .before .before .before .before .before .before .before .before .args .settings) (c .before .before .before .before .before .before .before .before .args .y .now) (c .before .before .before .before .before .before .before .before .args .bits) (c .before .before .before .before .before .before .before .before .args .question .now) _ (c .not-begun3 .ensures) (start-no-room (c .before .before .before .before .before .before .before .before .args .settings) (c .before .before .before .before .before .before .before .before .args .y .now) (c .before .before .before .before .before .before .before .before .args .bits) (c .before .before .before .before .before .before .before .before .args .question .now) (sym (c .before .before .before .before .before .is-within-limits .ensures) ∙ not-false _ (c .before .before .before .before .if1 .left)) (sym (c .before .before .before .keeps-string-rule .ensures) ∙ not-false _ (c .before .before .if2 .left)) (c .before .if3 .taken))
 
 -- src/rebuilder.rt:489:11
 write-question-requires : tie.Need-write-question-requires
@@ -63,7 +63,7 @@ enum-known-size c = search needs
 
 -- src/rebuilder.rt:493:60
 cast-fresh-rebuilder : tie.Need-cast-fresh-rebuilder
-cast-fresh-rebuilder c = record { fits = start-small (c .before .before .before .before .before .before .before .before .before .before .before .before .before .before .args .settings) (c .before .before .before .before .before .before .before .before .before .before .before .before .before .before .args .y .now) (c .before .before .before .before .before .before .before .before .before .before .before .before .before .before .args .bits) (c .before .before .before .before .before .before .before .before .before .before .before .before .before .before .args .question .now) (sym (c .before .before .before .before .before .before .before .before .before .before .before .settings-within-limits .ensures) ∙ not-false _ (c .before .before .before .before .before .before .before .before .before .before .if1 .left)) (sym (c .before .before .before .before .before .before .before .before .before .keeps-string-rule .ensures) ∙ not-false _ (c .before .before .before .before .before .before .before .before .if2 .left)) }
+cast-fresh-rebuilder c = record { fits = start-small (c .before .before .before .before .before .before .before .before .before .before .before .before .before .before .args .settings) (c .before .before .before .before .before .before .before .before .before .before .before .before .before .before .args .y .now) (c .before .before .before .before .before .before .before .before .before .before .before .before .before .before .args .bits) (c .before .before .before .before .before .before .before .before .before .before .before .before .before .before .args .question .now) (sym (c .before .before .before .before .before .before .before .before .before .before .before .is-within-limits .ensures) ∙ not-false _ (c .before .before .before .before .before .before .before .before .before .before .if1 .left)) (sym (c .before .before .before .before .before .before .before .before .before .keeps-string-rule .ensures) ∙ not-false _ (c .before .before .before .before .before .before .before .before .if2 .left)) }
 
 -- src/rebuilder.rt:493:20
 fresh-rebuilder-requires : tie.Need-fresh-rebuilder-requires
@@ -75,7 +75,7 @@ same-length c = search needs
 
 -- src/rebuilder.rt:477:1
 returns-4 : tie.Need-returns-4
-returns-4 c = absurd (start-fits (c .before .before .before .before .before .before .before .before .before .before .before .before .before .before .args .settings) (c .before .before .before .before .before .before .before .before .before .before .before .before .before .before .args .y .now) (c .before .before .before .before .before .before .before .before .before .before .before .before .before .before .args .bits) (c .before .before .before .before .before .before .before .before .before .before .before .before .before .before .args .question .now) (sym (c .before .before .before .before .before .before .before .before .before .before .before .settings-within-limits .ensures) ∙ not-false _ (c .before .before .before .before .before .before .before .before .before .before .if1 .left)) (sym (c .before .before .before .before .before .before .before .before .before .keeps-string-rule .ensures) ∙ not-false _ (c .before .before .before .before .before .before .before .before .if2 .left)) (let h = c .before .before .before .before .before .before .before .if3 .left in omega arith) (c .before .before .before .before .before .write-question .ensures) (c .before .enum-told .given .1))
+returns-4 c = absurd (start-fits (c .before .before .before .before .before .before .before .before .before .before .before .before .before .before .args .settings) (c .before .before .before .before .before .before .before .before .before .before .before .before .before .before .args .y .now) (c .before .before .before .before .before .before .before .before .before .before .before .before .before .before .args .bits) (c .before .before .before .before .before .before .before .before .before .before .before .before .before .before .args .question .now) (sym (c .before .before .before .before .before .before .before .before .before .before .before .is-within-limits .ensures) ∙ not-false _ (c .before .before .before .before .before .before .before .before .before .before .if1 .left)) (sym (c .before .before .before .before .before .before .before .before .before .keeps-string-rule .ensures) ∙ not-false _ (c .before .before .before .before .before .before .before .before .if2 .left)) (let h = c .before .before .before .before .before .before .before .if3 .left in omega arith) (c .before .before .before .before .before .write-question .ensures) (c .before .enum-told .given .1))
 
 -- src/rebuilder.rt:477:1
 same-length-2 : tie.Need-same-length-2
@@ -83,13 +83,13 @@ same-length-2 c = search needs
 
 -- src/rebuilder.rt:477:1
 returns-5 : tie.Need-returns-5
-returns-5 c = start-begun (c .before .before .before .before .before .before .before .before .before .before .before .before .before .before .before .args .settings) (c .before .before .before .before .before .before .before .before .before .before .before .before .before .before .before .args .y .now) (c .before .before .before .before .before .before .before .before .before .before .before .before .before .before .before .args .bits) (c .before .before .before .before .before .before .before .before .before .before .before .before .before .before .before .args .question .now) (sym (c .before .before .before .before .before .before .before .before .before .before .before .before .settings-within-limits .ensures) ∙ not-false _ (c .before .before .before .before .before .before .before .before .before .before .before .if1 .left)) (sym (c .before .before .before .before .before .before .before .before .before .before .keeps-string-rule .ensures) ∙ not-false _ (c .before .before .before .before .before .before .before .before .before .if2 .left)) (let h = c .before .before .before .before .before .before .before .before .if3 .left in omega arith) (c .before .before .before .before .before .before .write-question .ensures) (c .before .before .size .given .1) (c .fresh-rebuilder .ensures)
+returns-5 c = start-begun (c .before .before .before .before .before .before .before .before .before .before .before .before .before .before .before .args .settings) (c .before .before .before .before .before .before .before .before .before .before .before .before .before .before .before .args .y .now) (c .before .before .before .before .before .before .before .before .before .before .before .before .before .before .before .args .bits) (c .before .before .before .before .before .before .before .before .before .before .before .before .before .before .before .args .question .now) (sym (c .before .before .before .before .before .before .before .before .before .before .before .before .is-within-limits .ensures) ∙ not-false _ (c .before .before .before .before .before .before .before .before .before .before .before .if1 .left)) (sym (c .before .before .before .before .before .before .before .before .before .before .keeps-string-rule .ensures) ∙ not-false _ (c .before .before .before .before .before .before .before .before .before .if2 .left)) (let h = c .before .before .before .before .before .before .before .before .if3 .left in omega arith) (c .before .before .before .before .before .before .write-question .ensures) (c .before .before .size .given .1) (c .fresh-rebuilder .ensures)
 
 pub rebuilder-start-spec : {M : Type 1} → statement M
 rebuilder-start-spec =
     tie.close
     (tie.spec
-    settings-within-limits-requires
+    is-within-limits-requires
     not-begun-requires
     returns
     keeps-string-rule-requires

@@ -1,7 +1,7 @@
 use Rattle.protocol.specs.Limits.{withinLimits}
 use borrow.Author.Needs.{needs}
-use Rattle.ends.proofs.sound.settings_within_limits.Statement.{statement}
-use Rattle.ends.proofs.sound.settings_within_limits.Tie as tie
+use Rattle.protocol.proofs.Settings.is_within_limits.Statement.{statement}
+use Rattle.protocol.proofs.Settings.is_within_limits.Tie as tie
 
 is-between-requires : tie.Need-is-between-requires
 is-between-requires c κs = search needs
@@ -31,8 +31,8 @@ returns : tie.Need-returns
 unfolding withinLimits
 returns c = simp (c .both4 .ensures, c .before .both3 .ensures, c .before .before .both2 .ensures, c .before .before .before .before .before .before .both .ensures, c .before .before .before .before .before .before .before .before .is-between .ensures, c .before .before .before .before .before .is-between2 .ensures, c .before .before .before .before .is-between3 .ensures, c .before .before .before .is-between4 .ensures)
 
-pub settings-within-limits-spec : {M : Type 1} → statement M
-settings-within-limits-spec =
+pub is-within-limits-spec : {M : Type 1} → statement M
+is-within-limits-spec =
     tie.close
     (tie.spec
     is-between-requires
