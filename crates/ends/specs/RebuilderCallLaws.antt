@@ -2,14 +2,14 @@
 use mathlib.Core.Path.{_≡_, refl, sym, ap, ap₂, _∙_, subst}
 use mathlib.Core.Bool.{Bool, true, false, cond, _&&_, _||_}
 use mathlib.Core.Logic.{_⊎_, inl, inr}
-use mathlib.Core.List.{List, [], _∷_, _++_}
-use mathlib.Core.Option.{Option, none, some}
-use Prim.Native.Nat.{ℕ, zero, suc, _+_, _-_, _*_, _/_, _^_, max, _≤_, _<_}
+use mathlib.Core.List.{List, []}
+use mathlib.Core.Option.{Option, some}
+use Prim.Native.Nat.{ℕ, _+_, _-_, _*_, _/_, _≤_, _<_}
 use native.Mathlib.Omega.{arith}
 use lib.ListN.{length, take, drop, length-drop}
 use lib.Seq.{take-all}
-use lib.Dec.{leb, ltb, eqb, lit≤}
-use borrow.Author.Tests.{le-leb, lt-leb, leb-true, leb-false, eqb-true, eq-eqb, ne-eqb, eqb-false}
+use lib.Dec.{leb, eqb}
+use borrow.Author.Tests.{le-leb, lt-leb, leb-true, eqb-true, eq-eqb, ne-eqb, eqb-false}
 use Rattle.strings.specs.Tests.{by-test, and-left, and-right, true-false}
 use Rattle.strings.specs.Bits.{range, writeBits, cleared, bytesFor, Part}
 use Rattle.strings.specs.StringRule.{stringRule}
@@ -21,20 +21,19 @@ use Rattle.strings.specs.declared.Refusal.the-variants.{BadSetting, BadString, 
 use Rattle.messages.specs.declared.Kind.{Kind}
 use Rattle.messages.specs.declared.WriteResult.{WriteResult}
 use Rattle.messages.specs.declared.WriteResult.the-variants.{Written, TooShort}
-use Rattle.messages.specs.Writing.{Outcome, leaves, putFront}
+use Rattle.messages.specs.Writing.{leaves, putFront}
 use Rattle.messages.specs.declared.Question.{Question}
 use Rattle.messages.specs.declared.Question.the-variants.{AskOpen, AskHash, AskSyndrome, AskBits}
 use Rattle.messages.specs.declared.AnswerRead.{AnswerRead}
 use Rattle.messages.specs.declared.AnswerRead.the-variants.{IsSize, IsHash, IsSyndrome, IsBits, NoAnswer}
 use Rattle.messages.specs.Questions.{questionKind, questionBytes}
-use Rattle.messages.specs.Answers.{Answer, sizeAnswer, hashAnswer, syndromeAnswer, bitsAnswer, answerBytes, readAnswer, answerValue}
+use Rattle.messages.specs.Answers.{Answer, sizeAnswer, hashAnswer, syndromeAnswer, bitsAnswer, readAnswer, answerValue}
 use Rattle.messages.specs.AnswerLaws.{answer-form, bits-read, BitsAt, range-rest}
 use Rattle.protocol.specs.declared.Settings.{Settings}
 use Rattle.protocol.specs.declared.How.the-variants.{ByBits}
 use Rattle.protocol.specs.declared.Piece.{Piece}
 use Rattle.protocol.specs.declared.Rebuilder.{Rebuilder}
-use Rattle.protocol.specs.declared.SheetChange.{SheetChange}
-use Rattle.protocol.specs.declared.SheetChange.the-variants.{NoRow, AddRow, OneRow}
+use Rattle.protocol.specs.declared.SheetChange.the-variants.{NoRow, OneRow}
 use Rattle.protocol.specs.Limits.{withinLimits}
 use Rattle.protocol.specs.Segments.{row}
 use Rattle.protocol.specs.Shape.{full, Proper, Inside, sizes, size-bits}
@@ -42,16 +41,16 @@ use Rattle.protocol.specs.Runs.{sizeOf}
 use Rattle.protocol.specs.SoundLaws.{limits-is}
 use Rattle.protocol.specs.States.{top, planned, askFor}
 use Rattle.protocol.specs.Soundness.{sound, stageFits, openingSound}
-use Rattle.protocol.specs.SoundSteps.{Framed, sound-is, phaseSound, phase-whole, OpeningIs, opening-is, WholeIs, whole-is, PiecesIs, fresh-sound, opening-sound, whole-sound, TopIs, top-is, ask-inside, PhaseOf, isOpening, isPieces, isWhole, phase-of}
+use Rattle.protocol.specs.SoundSteps.{Framed, sound-is, phaseSound, phase-whole, OpeningIs, opening-is, WholeIs, whole-is, PiecesIs, fresh-sound, opening-sound, whole-sound, top-is, ask-inside, PhaseOf, isOpening, isPieces, isWhole, phase-of}
 use Rattle.protocol.specs.Steps.{step-opening, step-whole}
 use Rattle.protocol.specs.Asking.{proper-of}
-use Rattle.protocol.specs.RebuilderCall.{Step, Taken, refuses, takes, unlessTaken, openingStep, wholeStep, stepOf, questionLength, Rooms, roomFor, hears, awaits, rebuilderCall, Started, starts, startDeclines, rebuilderStart, freshRebuilder}
+use Rattle.protocol.specs.RebuilderCall.{Taken, refuses, openingStep, wholeStep, stepOf, questionLength, Rooms, roomFor, hears, awaits, rebuilderCall, Started, starts, startDeclines, rebuilderStart, freshRebuilder}
 use Rattle.ends.specs.declared.rebuilder.RebuilderOut.{RebuilderOut}
 use Rattle.ends.specs.declared.rebuilder.StartAnswer.the-variants.{Begun, NotBegun}
 use Rattle.ends.specs.declared.rebuilder.StartOut.{StartOut}
 use Rattle.ends.specs.StateCode.{Usable, Counts}
 use Rattle.ends.specs.SoundLaws.{sound-counts}
-use Rattle.ends.specs.RebuilderCode.{OutIs, Acting, Lending, OneApart, oneLess, oneMore, RebuilderSaid, saidRebuilder, leavesRebuilder, stepTaken, Opening, WholeDue, BitsDue, dueLength, Due, answerRoom, heardStep, rooms, refusal, front, noRebuilder, saidStart, leavesStart}
+use Rattle.ends.specs.RebuilderCode.{OutIs, Acting, OneApart, oneLess, oneMore, RebuilderSaid, saidRebuilder, leavesRebuilder, stepTaken, Opening, WholeDue, BitsDue, dueLength, Due, answerRoom, heardStep, refusal, front, noRebuilder, saidStart, leavesStart}
 use Rattle.ends.specs.RebuilderCodeLaws.{out-said, step-said, size-most, put-fits, question-short}
 
 -- ---- the whole string

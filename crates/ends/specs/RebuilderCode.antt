@@ -1,8 +1,8 @@
 -- What the rebuilder's start and call give and leave in the lent buffers, and what their parts require.
 use mathlib.Core.Path.{_≡_}
-use mathlib.Core.Bool.{Bool, true, false, cond}
+use mathlib.Core.Bool.{Bool, true, cond}
 use mathlib.Core.Logic.{_⊎_}
-use mathlib.Core.Option.{Option, some}
+use mathlib.Core.Option.{some}
 use mathlib.Core.List.{List, [], _∷_, _++_}
 use Prim.Native.Nat.{ℕ, _+_, _*_, max, _≤_, _<_}
 use lib.ListN.{length, drop, replicate}
@@ -20,10 +20,9 @@ use Rattle.messages.specs.declared.AnswerRead.{AnswerRead}
 use Rattle.messages.specs.declared.AnswerRead.the-variants.{IsSize, IsHash, IsSyndrome, IsBits, NoAnswer}
 use Rattle.messages.specs.Questions.{questionKind}
 use Rattle.messages.specs.Answers.{readAnswer, sizeAnswer, hashAnswer, syndromeAnswer, bitsAnswer}
-use Rattle.protocol.specs.declared.Settings.{Settings}
 use Rattle.protocol.specs.declared.Rebuilder.{Rebuilder}
 use Rattle.protocol.specs.declared.SheetChange.{SheetChange}
-use Rattle.protocol.specs.declared.SheetChange.the-variants.{NoRow, AddRow, OneRow}
+use Rattle.protocol.specs.declared.SheetChange.the-variants.{NoRow}
 use Rattle.protocol.specs.Shape.{full}
 use Rattle.protocol.specs.States.{noPiece, planned, top, anchorOffset}
 use Rattle.protocol.specs.Soundness.{sound}

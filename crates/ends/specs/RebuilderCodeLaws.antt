@@ -1,15 +1,14 @@
 -- Laws for the proofs of src/rebuilder.rt.
 use mathlib.Core.Path.{_≡_, refl, sym, ap, ap₂, _∙_, subst}
-use mathlib.Core.Bool.{Bool, true, false, cond}
-use mathlib.Core.Logic.{_⊎_, inl, inr}
-use mathlib.Core.List.{List, [], _∷_, _++_}
+use mathlib.Core.Bool.{Bool, true, false}
+use mathlib.Core.Logic.{inl, inr}
+use mathlib.Core.List.{List, [], _∷_}
 use mathlib.Core.Option.{Option, none, some}
-use Prim.Native.Nat.{ℕ, zero, suc, _+_, _-_, _*_, _/_, _^_, max, _≤_, _<_}
-use native.Mathlib.Nat.{add-zero, zero-add}
+use Prim.Native.Nat.{ℕ, zero, suc, _+_, _-_, _*_, max, _≤_, _<_}
 use native.Mathlib.Omega.{arith}
-use lib.ListN.{length, drop, length-append}
-use lib.Dec.{leb, ltb, eqb, lit≤}
-use borrow.Author.Tests.{le-ltb, lt-ltb, eq-eqb, ne-eqb}
+use lib.ListN.{length, length-append}
+use lib.Dec.{leb, eqb, lit≤}
+use borrow.Author.Tests.{le-ltb, eq-eqb, ne-eqb}
 use Rattle.strings.specs.Tests.{by-test}
 use Rattle.strings.specs.Bits.{range, writeBits, Part}
 use Rattle.strings.specs.RangeLaws.{range-length}
@@ -22,7 +21,7 @@ use Rattle.codes.specs.Repair.{putIn, takeOut, repairTo}
 use Rattle.codes.specs.Edits.{edited, Fits, Editable, repairEdit}
 use Rattle.codes.specs.EditLaws.{repair-found, repair-nothing, repair-fits}
 use Rattle.messages.specs.declared.Question.{Question}
-use Rattle.messages.specs.declared.Question.the-variants.{AskOpen, AskHash, AskSyndrome, AskBits}
+use Rattle.messages.specs.declared.Question.the-variants.{AskHash, AskSyndrome, AskBits}
 use Rattle.messages.specs.declared.WriteResult.{WriteResult}
 use Rattle.messages.specs.declared.WriteResult.the-variants.{Written, TooShort}
 use Rattle.messages.specs.Numbers.{number}
@@ -30,19 +29,17 @@ use Rattle.messages.specs.Kinds.{kindNumber}
 use Rattle.messages.specs.KindLaws.{kind-size}
 use Rattle.messages.specs.Questions.{questionBytes, questionKind}
 use Rattle.messages.specs.QuestionLaws.{InRange, question-size, question-parts, fieldBytes}
-use Rattle.messages.specs.Answers.{Answer, sizeAnswer, hashAnswer, syndromeAnswer, bitsAnswer}
-use Rattle.messages.specs.Writing.{Outcome, leaves, putFront}
+use Rattle.messages.specs.Answers.{Answer, hashAnswer, syndromeAnswer, bitsAnswer}
+use Rattle.messages.specs.Writing.{leaves, putFront}
 use Rattle.protocol.specs.declared.Settings.{Settings}
 use Rattle.protocol.specs.declared.How.{How}
-use Rattle.protocol.specs.declared.How.the-variants.{ByHash, ByPutIn, ByTakeOut, ByAnchor, ByBits}
+use Rattle.protocol.specs.declared.How.the-variants.{ByHash, ByAnchor, ByBits}
 use Rattle.protocol.specs.declared.Piece.{Piece}
 use Rattle.protocol.specs.declared.Rebuilder.{Rebuilder}
 use Rattle.protocol.specs.declared.SheetChange.{SheetChange}
-use Rattle.protocol.specs.declared.SheetChange.the-variants.{NoRow, AddRow, OneRow}
+use Rattle.protocol.specs.declared.SheetChange.the-variants.{NoRow, AddRow}
 use Rattle.protocol.specs.Moves.{moved-effect}
-use Rattle.protocol.specs.Limits.{Limits}
-use Rattle.protocol.specs.Segments.{Stage, placed, middle, laterStage, hashing, puttingIn, takingOut, anchors, Effect, settles, stays, splits, effect, trial, trialOf, retry, hashOf, row, howNumber}
-use Rattle.protocol.specs.Shape.{full, Inside}
+use Rattle.protocol.specs.Segments.{Stage, placed, middle, laterStage, hashing, anchors, Effect, settles, stays, splits, effect, trialOf, retry, hashOf, row, howNumber}
 use Rattle.protocol.specs.Right.{Fit}
 use Rattle.protocol.specs.States.{top, popped, restaged, retried, splitAt, planned, askFor, anchorOffset}
 use Rattle.protocol.specs.Soundness.{sound, stageFits}
@@ -62,8 +59,8 @@ use Rattle.ends.specs.declared.rebuilder.RebuilderAnswer.{RebuilderAnswe
 use Rattle.ends.specs.declared.rebuilder.RebuilderAnswer.the-variants.{Asks}
 use Rattle.ends.specs.declared.rebuilder.RebuilderOut.{RebuilderOut}
 use Rattle.ends.specs.StateCode.{Usable, Holds, Stages, Retries, Splits, Counts, Offsets, planOf, offset-in}
-use Rattle.ends.specs.SoundLaws.{sound-counts, sound-usable}
-use Rattle.ends.specs.RebuilderCode.{front, nextAnswer, OutIs, Acting, Lending, Splitting, RebuilderSaid, saidRebuilder, leavesRebuilder, stepTaken, trialStep, OneApart, oneLess, oneMore, repairHow}
+use Rattle.ends.specs.SoundLaws.{sound-counts}
+use Rattle.ends.specs.RebuilderCode.{front, nextAnswer, OutIs, Acting, Splitting, RebuilderSaid, saidRebuilder, leavesRebuilder, stepTaken, trialStep, OneApart, oneLess, oneMore, repairHow}
 
 -- ---- the question that a sound state writes
 not-open : (m j : ℕ) (t : Piece) → NotOpen (askFor m j t)

@@ -1,6 +1,6 @@
 -- 01, "The rebuilder": where an anchor is placed.
 use mathlib.Core.Path.{_≡_}
-use mathlib.Core.Bool.{Bool, true, false, cond, _&&_}
+use mathlib.Core.Bool.{Bool, true, cond, _&&_}
 use mathlib.Core.List.{List, [], _∷_}
 use mathlib.Core.Option.{Option, none, some}
 use Prim.Native.Nat.{ℕ, zero, suc, _+_, _-_, _*_, _≤_, _<_}

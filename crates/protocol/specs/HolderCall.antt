@@ -1,8 +1,8 @@
 -- The holder's call (01, "Messages" and "Why a call is turned down"): what the contract of the code and demand 3 are stated with.
-use mathlib.Core.Bool.{Bool, true, false, cond, not, _&&_, _||_}
-use mathlib.Core.List.{List, [], _∷_, _++_}
+use mathlib.Core.Bool.{Bool, true, false, not, _&&_, _||_}
+use mathlib.Core.List.{List}
 use Prim.Native.Nat.{ℕ, _+_}
-use lib.ListN.{length, drop}
+use lib.ListN.{length}
 use lib.Dec.{leb, ltb, eqb}
 use Rattle.strings.specs.Bits.{range}
 use Rattle.strings.specs.StringRule.{stringRule}

@@ -1,18 +1,13 @@
 -- What an answered call of the holder shows, and that every state from it is sound.
-use mathlib.Core.Path.{_≡_, refl, sym, ap, ap₂, _∙_, subst}
-use mathlib.Core.Bool.{Bool, true, false, cond, not, _&&_, _||_}
+use mathlib.Core.Path.{_≡_, refl, sym, _∙_}
+use mathlib.Core.Bool.{Bool, true, false, _&&_}
 use mathlib.Core.Logic.{_⊎_, inl, inr}
-use mathlib.Core.List.{List, [], _∷_, _++_, append-assoc, append-nil}
-use mathlib.Core.Option.{Option, none, some}
-use Prim.Native.Nat.{ℕ, zero, suc, _+_, _-_, _*_, _/_, _%_, _^_, max, min, _≤_, _<_}
-use native.Mathlib.Nat.{zero-add, add-zero, add-assoc, mod-lt, div-mul-le-self, le-div-iff-mul-le, le-refl, le-trans, div-le-self}
-use native.Mathlib.Numerals.{add-one}
+use mathlib.Core.List.{List}
+use Prim.Native.Nat.{ℕ, _+_, _≤_, _<_}
 use native.Mathlib.Omega.{arith}
-use native.Mathlib.Decide.{ℕ-discrete, decLt, decLe}
-use lib.ListN.{set, replicate, length-set, length-replicate, drop-of-length-le, length, take, drop, getD, take-append-drop, length-append, length-take, length-drop, List·getD-append}
-use lib.Seq.{take-at, drop-at, drop-append-add, getD-set-same, getD-set-other, length-sets, sets, sets-eq, append-snoc, ext-getD, drop-drop, take-take, getD-append-add, getD-take, getD-drop, take-all, length-take-le}
-use lib.Dec.{leb, ltb, eqb, lit≤}
-use borrow.Author.Tests.{eqb-true, eqb-false, eq-eqb, ltb-true, ltb-false, leb-true, leb-false, le-leb, lt-leb, lt-ltb, le-ltb, ne-eqb}
+use lib.ListN.{length}
+use lib.Dec.{leb, ltb, eqb}
+use borrow.Author.Tests.{eqb-true, eq-eqb, ltb-true, leb-true, le-leb, ne-eqb}
 use Rattle.messages.specs.QuestionLaws.{Within}
 use Rattle.messages.specs.Answers.{answerBytes}
 use Rattle.messages.specs.Kinds.{kindAt}

@@ -1,8 +1,7 @@
 -- 01, "Strings and settings": the settings' limits and the house settings.
-use mathlib.Core.Path.{_≡_}
-use mathlib.Core.Bool.{Bool, true, false, _&&_}
-use Prim.Native.Nat.{ℕ, _^_, _≤_, _<_}
-use lib.Dec.{leb, ltb}
+use mathlib.Core.Bool.{Bool, _&&_}
+use Prim.Native.Nat.{ℕ, _≤_, _<_}
+use lib.Dec.{leb}
 use Rattle.protocol.specs.declared.Settings.{Settings}
 
 abbrev pub houseSettings : Settings

@@ -1,9 +1,9 @@
 -- The rebuilder's start and call (01, "The rebuilder" and "Why a call is turned down"): what the contracts of the code and demand 3 are stated with.
-use mathlib.Core.Bool.{Bool, true, false, cond, not, _&&_, _||_}
-use mathlib.Core.List.{List, [], _∷_, _++_}
+use mathlib.Core.Bool.{Bool, true, false, cond, _&&_}
+use mathlib.Core.List.{List, [], _∷_}
 use mathlib.Core.Option.{Option, none, some}
 use Prim.Native.Nat.{ℕ, zero, suc, _+_, _-_, _*_, _/_}
-use lib.ListN.{length, drop, replicate}
+use lib.ListN.{length, replicate}
 use lib.Seq.{sets}
 use lib.Dec.{leb, ltb, eqb}
 use Rattle.strings.specs.Bits.{range, bytesFor, writeBits, cleared}
@@ -19,13 +19,12 @@ use Rattle.messages.specs.Answers.{Answer, sizeAnswer, hashAnswer, syndromeAnsw
 use Rattle.protocol.specs.declared.Settings.{Settings}
 use Rattle.protocol.specs.declared.How.the-variants.{ByAnchor, ByBits}
 use Rattle.protocol.specs.declared.Row.{Row}
-use Rattle.protocol.specs.declared.Piece.{Piece}
 use Rattle.protocol.specs.declared.Rebuilder.{Rebuilder}
 use Rattle.protocol.specs.declared.SheetChange.{SheetChange}
 use Rattle.protocol.specs.declared.SheetChange.the-variants.{NoRow, AddRow, OneRow}
 use Rattle.protocol.specs.Limits.{withinLimits}
 use Rattle.protocol.specs.Segments.{Stage, hashing, puttingIn, takingOut, anchors, middle, Effect, settles, stays, splits, effect, row, theSize, theBits}
-use Rattle.protocol.specs.States.{noPiece, stacked, top, popped, pushed, restaged, retried, splitAt, planned}
+use Rattle.protocol.specs.States.{noPiece, top, popped, pushed, restaged, retried, splitAt, planned}
 use Rattle.protocol.specs.Soundness.{sound}
 
 -- ---- the start

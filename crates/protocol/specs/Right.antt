@@ -1,18 +1,13 @@
 -- What a settled piece has of the bits of X.
-use mathlib.Core.Path.{_≡_, refl, sym, ap, ap₂, _∙_, subst}
-use mathlib.Core.Bool.{Bool, true, false, cond, not, _&&_, _||_}
-use mathlib.Core.Logic.{_⊎_, inl, inr}
-use mathlib.Core.List.{List, [], _∷_, _++_, append-assoc, append-nil}
+use mathlib.Core.Path.{_≡_, refl, ap}
+use mathlib.Core.Bool.{Bool, true, false, _||_}
+use mathlib.Core.List.{List, [], _∷_}
 use mathlib.Core.Option.{Option, none, some}
-use Prim.Native.Nat.{ℕ, zero, suc, _+_, _-_, _*_, _/_, _%_, _^_, max, min, _≤_, _<_}
-use native.Mathlib.Nat.{zero-add, add-zero, add-assoc, mod-lt, div-mul-le-self, le-div-iff-mul-le, le-refl, le-trans, div-le-self}
-use native.Mathlib.Numerals.{add-one}
+use Prim.Native.Nat.{ℕ, zero, suc, _+_, _-_, _*_, _≤_, _<_}
 use native.Mathlib.Omega.{arith}
-use native.Mathlib.Decide.{ℕ-discrete, decLt, decLe}
-use lib.ListN.{length, take, drop, getD, take-append-drop, length-append, length-take, length-drop, List·getD-append}
-use lib.Seq.{drop-drop, take-take, getD-append-add, getD-take, getD-drop, take-all, length-take-le}
-use lib.Dec.{leb, ltb, eqb, lit≤}
-use borrow.Author.Tests.{eqb-true, eqb-false, eq-eqb, ltb-true, ltb-false, leb-true, leb-false, le-leb, lt-leb, lt-ltb, le-ltb}
+use lib.ListN.{length, take, drop, length-take, length-drop}
+use lib.Dec.{ltb, eqb}
+use borrow.Author.Tests.{eqb-true, ltb-false}
 use Rattle.codes.specs.Repair.{Deletion, putIn, takeOut}
 use Rattle.codes.specs.RepairLaws.{deletion-length, put-in-found, put-in-length, put-in-repairs, take-out-found, take-out-length, take-out-repairs}
 use Rattle.codes.specs.Syndrome.{syndrome}

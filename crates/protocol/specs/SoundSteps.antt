@@ -1,18 +1,15 @@
 -- Every state from a call is sound.
-use mathlib.Core.Path.{_≡_, refl, sym, ap, ap₂, _∙_, subst}
+use mathlib.Core.Path.{_≡_, refl, ap, _∙_}
 use mathlib.Core.Bool.{Bool, true, false, cond, not, _&&_, _||_}
-use mathlib.Core.Logic.{_⊎_, inl, inr}
-use mathlib.Core.List.{List, [], _∷_, _++_, append-assoc, append-nil}
-use mathlib.Core.Option.{Option, none, some}
-use Prim.Native.Nat.{ℕ, zero, suc, _+_, _-_, _*_, _/_, _%_, _^_, max, min, _≤_, _<_}
-use native.Mathlib.Nat.{zero-add, add-zero, add-assoc, mod-lt, div-mul-le-self, le-div-iff-mul-le, le-refl, le-trans, div-le-self}
-use native.Mathlib.Numerals.{add-one}
+use mathlib.Core.List.{List, [], _∷_}
+use mathlib.Core.Option.{none, some}
+use Prim.Native.Nat.{ℕ, zero, suc, _+_, _-_, _*_, _/_, max, _≤_, _<_}
+use native.Mathlib.Nat.{le-refl}
 use native.Mathlib.Omega.{arith}
-use native.Mathlib.Decide.{ℕ-discrete, decLt, decLe}
-use lib.ListN.{set, replicate, length-set, length-replicate, drop-of-length-le, length, take, drop, getD, take-append-drop, length-append, length-take, length-drop, List·getD-append}
-use lib.Seq.{take-at, drop-at, drop-append-add, getD-set-same, getD-set-other, length-sets, sets, sets-eq, append-snoc, ext-getD, drop-drop, take-take, getD-append-add, getD-take, getD-drop, take-all, length-take-le}
+use native.Mathlib.Decide.{ℕ-discrete, decLe}
+use lib.ListN.{replicate, length-replicate, length, getD}
 use lib.Dec.{leb, ltb, eqb, lit≤}
-use borrow.Author.Tests.{eqb-true, eqb-false, eq-eqb, ltb-true, ltb-false, leb-true, leb-false, le-leb, lt-leb, lt-ltb, le-ltb, ne-eqb}
+use borrow.Author.Tests.{eqb-true, eqb-false, eq-eqb, ltb-true, ltb-false, leb-true, leb-false, le-leb, lt-ltb, ne-eqb}
 use Rattle.messages.specs.Answers.{Answer, bitsAnswer, hashAnswer, sizeAnswer, syndromeAnswer}
 use Rattle.messages.specs.declared.Question.{Question}
 use Rattle.messages.specs.declared.Question.the-variants.{AskBits, AskHash, AskOpen, AskSyndrome}

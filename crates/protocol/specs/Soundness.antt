@@ -1,10 +1,9 @@
 -- docs/STATE.md: the test for an unsound state (01, refusal 3). Every state from the calls passes it, and a state that passes is safe to go on from.
-use mathlib.Core.Bool.{Bool, true, false, cond, not, _&&_, _||_}
+use mathlib.Core.Bool.{Bool, true, cond, not, _&&_, _||_}
 use mathlib.Core.List.{List, [], _∷_}
 use Prim.Native.Nat.{ℕ, zero, suc, _+_, _-_, _*_, _/_, max}
 use lib.ListN.{length, getD}
 use lib.Dec.{leb, ltb, eqb}
-use Rattle.strings.specs.Bits.{bytesFor}
 use Rattle.protocol.specs.declared.Settings.{Settings}
 use Rattle.protocol.specs.declared.Piece.{Piece}
 use Rattle.protocol.specs.declared.Rebuilder.{Rebuilder}

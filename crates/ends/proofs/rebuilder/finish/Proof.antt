@@ -1,4 +1,3 @@
-use mathlib.Core.Path.{_≡_, refl, sym, ap, _∙_}
 use Rattle.ends.specs.SoundLaws.{sound-plans}
 use Rattle.ends.specs.RebuilderCodeLaws.{finished-out, short-out, asked-out}
 use borrow.Author.Needs.{needs}

@@ -1,4 +1,4 @@
-use mathlib.Core.Path.{_≡_, refl, sym, ap, ap₂, _∙_}
+use mathlib.Core.Path.{sym, ap, _∙_}
 use Rattle.ends.specs.RebuilderCode.{answerRoom, rooms}
 use borrow.Author.Needs.{needs}
 use Rattle.ends.proofs.rebuilder.has_answer_room.Statement.{statement}

@@ -1,4 +1,3 @@
-use mathlib.Core.Path.{_≡_, refl, sym, ap, ap₂, _∙_}
 use Rattle.ends.specs.RebuilderCodeLaws.{retries, retried-counts, retried-sound, retried-out}
 use borrow.Author.Needs.{needs}
 use Rattle.ends.proofs.rebuilder.leave_waiting.Statement.{statement}

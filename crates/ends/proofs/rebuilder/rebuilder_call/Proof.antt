@@ -1,4 +1,4 @@
-use mathlib.Core.Path.{_≡_, refl, sym, ap, ap₂, _∙_}
+use mathlib.Core.Path.{refl, sym, _∙_}
 use borrow.Author.Tests.{not-true, not-false}
 use Rattle.ends.specs.SoundLaws.{sound-plans}
 use Rattle.ends.specs.HolderCodeLaws.{test-is}

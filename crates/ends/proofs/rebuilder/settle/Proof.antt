@@ -1,4 +1,3 @@
-use mathlib.Core.Path.{_≡_, refl, sym, ap, ap₂, _∙_}
 use Rattle.ends.specs.RebuilderCodeLaws.{holds, popped-stages, settled-counts, settled-sound, settled-out}
 use borrow.Author.Needs.{needs}
 use Rattle.ends.proofs.rebuilder.settle.Statement.{statement}

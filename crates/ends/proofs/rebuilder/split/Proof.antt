@@ -1,5 +1,3 @@
-use mathlib.Core.Path.{_≡_, refl, sym, ap, ap₂, _∙_}
-use native.Mathlib.Omega.{arith}
 use Rattle.ends.specs.RebuilderCodeLaws.{holds, splitting, split-counts, split-sound, split-out, split-start}
 use borrow.Author.Needs.{needs}
 use Rattle.ends.proofs.rebuilder.split.Statement.{statement}

@@ -1,4 +1,4 @@
-use mathlib.Core.Path.{_≡_, refl, sym, ap, ap₂, _∙_}
+use mathlib.Core.Path.{refl}
 use native.Mathlib.Omega.{arith}
 use Rattle.ends.specs.RebuilderCallLaws.{heard-size, heard-hash, heard-syndrome, heard-bits, bits-inside, bits-long, bits-said, read-said, enough-for, room-enough, room-bits, acting-small, whole-small, refused-said}
 use borrow.Author.Needs.{needs}

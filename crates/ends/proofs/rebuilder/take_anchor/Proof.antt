@@ -1,4 +1,3 @@
-use mathlib.Core.Path.{_≡_, refl, sym, ap, ap₂, _∙_}
 use Rattle.ends.specs.RebuilderCodeLaws.{holds, offsets, search-ready, anchor-start, anchor-text, anchor-written, anchor-part, place-splits, place-small, anchor-placed, anchor-unplaced, waiting-said, split-said, step-said}
 use borrow.Author.Needs.{needs}
 use Rattle.ends.proofs.rebuilder.take_anchor.Statement.{statement}

@@ -1,4 +1,3 @@
-use mathlib.Core.Path.{_≡_, refl, sym, ap, ap₂, _∙_}
 use native.Mathlib.Omega.{arith}
 use Rattle.ends.specs.RebuilderCallLaws.{bits-whole, bits-acting, due-whole, due-piece, due-anchor, due-said}
 use borrow.Author.Needs.{needs}

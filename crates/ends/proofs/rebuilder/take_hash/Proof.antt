@@ -1,4 +1,4 @@
-use mathlib.Core.Path.{_≡_, refl, sym, ap, ap₂, _∙_}
+use mathlib.Core.Path.{sym}
 use native.Mathlib.Omega.{arith}
 use Rattle.ends.specs.RebuilderCodeLaws.{step-hash, step-said}
 use borrow.Author.Needs.{needs}

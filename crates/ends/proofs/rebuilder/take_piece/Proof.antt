@@ -1,4 +1,3 @@
-use mathlib.Core.Path.{_≡_, refl, sym, ap, ap₂, _∙_}
 use Rattle.ends.specs.RebuilderCodeLaws.{holds, text-part, piece-part, piece-text, step-said, step-bits, settled-said}
 use borrow.Author.Needs.{needs}
 use Rattle.ends.proofs.rebuilder.take_piece.Statement.{statement}

@@ -1,4 +1,3 @@
-use mathlib.Core.Path.{_≡_, refl, sym, ap, ap₂, _∙_}
 use Rattle.ends.specs.RebuilderCallLaws.{opening-ready, opening-next, opening-said}
 use borrow.Author.Needs.{needs}
 use Rattle.ends.proofs.rebuilder.take_size.Statement.{statement}

@@ -1,4 +1,3 @@
-use mathlib.Core.Path.{_≡_, refl, sym, ap, ap₂, _∙_}
 use native.Mathlib.Omega.{arith}
 use Rattle.ends.specs.RebuilderCodeLaws.{holds, copy-part, copy-short, waiting-said, step-said, found-step, found-fits, nothing-step}
 use borrow.Author.Needs.{needs}

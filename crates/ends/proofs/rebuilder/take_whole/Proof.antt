@@ -1,4 +1,3 @@
-use mathlib.Core.Path.{_≡_, refl, sym, ap, ap₂, _∙_}
 use mathlib.Core.List.{[]}
 use Rattle.ends.specs.RebuilderCallLaws.{whole-counts, whole-text, whole-next, whole-said}
 use borrow.Author.Needs.{needs}

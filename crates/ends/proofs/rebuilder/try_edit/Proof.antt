@@ -1,4 +1,3 @@
-use mathlib.Core.Path.{_≡_, refl, sym, ap, ap₂, _∙_}
 use Rattle.ends.specs.RebuilderCodeLaws.{holds, editable, narrow, text-part, try-no, try-yes}
 use borrow.Author.Needs.{needs}
 use Rattle.ends.proofs.rebuilder.try_edit.Statement.{statement}
