@@ -1,0 +1,88 @@
+use mathlib.Core.Path.{_≡_, sym, _∙_}
+use mathlib.Core.Bool.{true}
+use native.Mathlib.Omega.{arith}
+use borrow.Author.Tests.{not-true, not-false}
+use Rattle.strings.specs.StringRule.{stringRule}
+use Rattle.cabi.specs.HolderBytesLaws.{holder-bad-string, holder-no-state, answer-declined, answer-small, answer-replied}
+use borrow.Author.Needs.{needs}
+use Rattle.cabi.proofs.lo_holder_answer.Statement.{statement}
+use Rattle.cabi.proofs.lo_holder_answer.Tie as tie
+
+-- what the first test shows
+string-kept : (c : tie.Else1) → let args = c .before .before .before .before .before .before .args in stringRule (args .x .now) (args .bits) ≡ true
+string-kept c = sym (c .before .keeps-string-rule .ensures) ∙ not-false _ (c .if1 .left)
+
+keeps-string-rule-requires : tie.Need-keeps-string-rule-requires
+keeps-string-rule-requires c κs = search needs
+
+returns : tie.Need-returns
+returns c = holder-bad-string _ _ _ _ _ (sym (c .before .keeps-string-rule .ensures) ∙ not-true _ (c .if1 .taken))
+
+returns-2 : tie.Need-returns-2
+returns-2 c = holder-no-state _ _ _ _ _ (string-kept (c .before)) (c .if2 .taken)
+
+read-holder-requires : tie.Need-read-holder-requires
+read-holder-requires c κs = search needs
+
+holder-call-requires : tie.Need-holder-call-requires
+holder-call-requires c κs = search needs
+
+enum-known-answer : tie.Need-enum-known-answer
+enum-known-answer c = search needs
+
+pack-refusal-requires : tie.Need-pack-refusal-requires
+pack-refusal-requires c κs = search needs
+
+enum-known-answer-2 : tie.Need-enum-known-answer-2
+enum-known-answer-2 c = search needs
+
+write-holder-requires : tie.Need-write-holder-requires
+write-holder-requires c κs = search needs
+
+mul-result : tie.Need-mul-result
+mul-result c =
+    let a = c .before .before .before .before .before .before .before .before .before .before .before .before .before .before .before .before .before .before .before .before .args in
+    let small = answer-small (a .state .now) (a .x .now) (a .bits) (a .msg .now) (a .reply .now) _ _ _ (string-kept (c .before .before .before .before .before .before .before .before .before .before .before .before .before .before)) (c .before .before .before .before .before .before .before .before .before .before .before .before .before .if2 .left) (c .before .before .before .before .before .before .before .before .before .before .before .read-holder .ensures) (c .before .before .before .before .before .before .before .before .before .holder-call .ensures) _ (c .before .before .before .before .before .answer2 .given .1) in omega arith
+
+same-length : tie.Need-same-length
+same-length c = search needs
+
+same-length-2 : tie.Need-same-length-2
+same-length-2 c = search needs
+
+returns-3 : tie.Need-returns-3
+returns-3 c =
+    let a = c .before .before .before .before .before .before .before .before .before .before .before .before .before .before .before .before .before .args in
+    answer-declined (a .state .now) (a .x .now) (a .bits) (a .msg .now) (a .reply .now) _ _ _ (string-kept (c .before .before .before .before .before .before .before .before .before .before .before)) (c .before .before .before .before .before .before .before .before .before .before .if2 .left) (c .before .before .before .before .before .before .before .before .read-holder .ensures) (c .before .before .before .before .before .before .holder-call .ensures) _ _ (c .before .before .answer .given .1) (c .pack-refusal .ensures)
+
+same-length-3 : tie.Need-same-length-3
+same-length-3 c = search needs
+
+same-length-4 : tie.Need-same-length-4
+same-length-4 c = search needs
+
+returns-4 : tie.Need-returns-4
+returns-4 c =
+    let a = c .before .before .before .before .before .before .before .before .before .before .before .before .before .before .before .before .before .before .before .before .args in
+    answer-replied (a .state .now) (a .x .now) (a .bits) (a .msg .now) (a .reply .now) _ _ _ (string-kept (c .before .before .before .before .before .before .before .before .before .before .before .before .before .before)) (c .before .before .before .before .before .before .before .before .before .before .before .before .before .if2 .left) (c .before .before .before .before .before .before .before .before .before .before .before .read-holder .ensures) (c .before .before .before .before .before .before .before .before .before .holder-call .ensures) _ _ (c .before .before .before .before .before .answer2 .given .1) (c .before .before .write-holder .ensures)
+
+pub lo-holder-answer-spec : {M : Type 1} → statement M
+lo-holder-answer-spec =
+    tie.close
+    (tie.spec
+    keeps-string-rule-requires
+    returns
+    returns-2
+    read-holder-requires
+    holder-call-requires
+    enum-known-answer
+    pack-refusal-requires
+    enum-known-answer-2
+    write-holder-requires
+    mul-result
+    same-length
+    same-length-2
+    returns-3
+    same-length-3
+    same-length-4
+    returns-4)

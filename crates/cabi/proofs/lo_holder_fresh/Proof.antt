@@ -1,0 +1,28 @@
+use mathlib.Core.Path.{ap, _∙_}
+use mathlib.Core.List.{_++_}
+use lib.ListN.{drop}
+use Rattle.cabi.specs.Layout.{holderBytes}
+use Rattle.cabi.specs.HolderBytesLaws.{fresh-short, fresh-whole}
+use borrow.Author.Needs.{needs}
+use Rattle.cabi.proofs.lo_holder_fresh.Statement.{statement}
+use Rattle.cabi.proofs.lo_holder_fresh.Tie as tie
+
+returns : tie.Need-returns
+returns c = fresh-short _ (c .if1 .taken)
+
+fresh-holder-requires : tie.Need-fresh-holder-requires
+fresh-holder-requires c κs = search needs
+
+write-holder-requires : tie.Need-write-holder-requires
+write-holder-requires c κs = search needs
+
+same-length : tie.Need-same-length
+same-length c = search needs
+
+returns-2 : tie.Need-returns-2
+returns-2 c =
+    fresh-whole _ _ (c .before .before .before .before .before .if1 .left) (c .before .before .write-holder .ensures ∙ ap (λ st. holderBytes st ++ drop 20 (c .before .before .before .before .before .before .before .args .state .now)) (c .before .before .before .before .fresh-holder .ensures))
+
+pub lo-holder-fresh-spec : {M : Type 1} → statement M
+lo-holder-fresh-spec =
+    tie.close (tie.spec returns fresh-holder-requires write-holder-requires same-length returns-2)

@@ -1,0 +1,134 @@
+use mathlib.Core.Path.{_≡_, sym, _∙_}
+use mathlib.Core.Bool.{true}
+use borrow.Author.Tests.{not-true, not-false}
+use Rattle.strings.specs.StringRule.{stringRule}
+use Rattle.cabi.specs.RebuilderBytesLaws.{call-bad-string, call-no-state, call-rows, call-small, call-declined, call-asks, call-finished}
+use borrow.Author.Needs.{needs}
+use Rattle.cabi.proofs.lo_rebuilder_call.Statement.{statement}
+use Rattle.cabi.proofs.lo_rebuilder_call.Tie as tie
+
+-- what the first test shows
+string-kept : (c : tie.Else1) → let args = c .before .before .before .before .before .before .before .before .args in stringRule (args .y .now) (args .bits) ≡ true
+string-kept c = sym (c .before .keeps-string-rule .ensures) ∙ not-false _ (c .if1 .left)
+
+keeps-string-rule-requires : tie.Need-keeps-string-rule-requires
+keeps-string-rule-requires c κs = search needs
+
+returns : tie.Need-returns
+returns c = call-bad-string _ _ _ _ _ _ _ (sym (c .before .keeps-string-rule .ensures) ∙ not-true _ (c .if1 .taken))
+
+returns-2 : tie.Need-returns-2
+returns-2 c = call-no-state _ _ _ _ _ _ _ (string-kept (c .before)) (c .if2 .taken)
+
+read-rebuilder-requires : tie.Need-read-rebuilder-requires
+read-rebuilder-requires c κs = search needs
+
+rebuilder-call-requires : tie.Need-rebuilder-call-requires
+rebuilder-call-requires c κs = search needs
+
+enum-known-answer : tie.Need-enum-known-answer
+enum-known-answer c = search needs
+
+pack-refusal-requires : tie.Need-pack-refusal-requires
+pack-refusal-requires c κs = search needs
+
+enum-told : tie.Need-enum-told
+enum-told c = search needs
+
+keep-requires : tie.Need-keep-requires
+keep-requires c κs =
+    let call = c .before .before .before .before .before .before .before .before .before in
+    let a = call .before .before .before .before .before .before .before .before .before .before .before .before .before .before .args in
+    (search needs, (call-rows (a .state .now) (a .y .now) (a .bits) (a .msg .now) (a .string .now) (a .sheet .now) (a .question .now) _ _ _ _ (call .before .before .before .read-rebuilder .ensures) (call .rebuilder-call .ensures), search needs))
+
+enum-known-answer-2 : tie.Need-enum-known-answer-2
+enum-known-answer-2 c = search needs
+
+keep-requires-2 : tie.Need-keep-requires-2
+keep-requires-2 c κs =
+    let call = c .before .before .before .before .before .before .before .before .before .before in
+    let a = call .before .before .before .before .before .before .before .before .before .before .before .before .before .before .args in
+    (search needs, (call-rows (a .state .now) (a .y .now) (a .bits) (a .msg .now) (a .string .now) (a .sheet .now) (a .question .now) _ _ _ _ (call .before .before .before .read-rebuilder .ensures) (call .rebuilder-call .ensures), call-small (a .state .now) (a .y .now) (a .bits) (a .msg .now) (a .string .now) (a .sheet .now) (a .question .now) _ _ _ _ (call .before .before .before .read-rebuilder .ensures) (call .rebuilder-call .ensures) _ (c .before .before .before .answer2 .given .1)))
+
+same-length : tie.Need-same-length
+same-length c = search needs
+
+same-length-2 : tie.Need-same-length-2
+same-length-2 c = search needs
+
+same-length-3 : tie.Need-same-length-3
+same-length-3 c = search needs
+
+returns-3 : tie.Need-returns-3
+returns-3 c =
+    let call = c .before .before .before .before .before .before .before .before .before in
+    let a = call .before .before .before .before .before .before .before .before .before .before .before .before .before .before .args in
+    call-declined (a .state .now) (a .y .now) (a .bits) (a .msg .now) (a .string .now) (a .sheet .now) (a .question .now) _ _ _ _ (call .before .before .before .read-rebuilder .ensures) (call .rebuilder-call .ensures) (string-kept (call .before .before .before .before .before .before)) (call .before .before .before .before .before .if2 .left) _ _ (c .before .before .answer .given .1) (c .pack-refusal .ensures)
+
+same-length-4 : tie.Need-same-length-4
+same-length-4 c = search needs
+
+same-length-5 : tie.Need-same-length-5
+same-length-5 c = search needs
+
+same-length-6 : tie.Need-same-length-6
+same-length-6 c = search needs
+
+same-length-7 : tie.Need-same-length-7
+same-length-7 c = search needs
+
+returns-4 : tie.Need-returns-4
+returns-4 c =
+    let call = c .before .before .before .before .before .before .before .before .before .before .before .before .before .before in
+    let a = call .before .before .before .before .before .before .before .before .before .before .before .before .before .before .args in
+    let keep = c .before .before .before .before .keep in
+    call-finished (a .state .now) (a .y .now) (a .bits) (a .msg .now) (a .string .now) (a .sheet .now) (a .question .now) _ _ _ _ (call .before .before .before .read-rebuilder .ensures) (call .rebuilder-call .ensures) (string-kept (call .before .before .before .before .before .before)) (call .before .before .before .before .before .if2 .left) _ _ _ (c .before .before .before .before .before .before .before .enum-told .given .1) (keep .ensures .0) (keep .ensures .1 .0) (keep .ensures .1 .1)
+
+same-length-8 : tie.Need-same-length-8
+same-length-8 c = search needs
+
+same-length-9 : tie.Need-same-length-9
+same-length-9 c = search needs
+
+same-length-10 : tie.Need-same-length-10
+same-length-10 c = search needs
+
+same-length-11 : tie.Need-same-length-11
+same-length-11 c = search needs
+
+returns-5 : tie.Need-returns-5
+returns-5 c =
+    let call = c .before .before .before .before .before .before .before .before .before .before .before .before .before .before .before in
+    let a = call .before .before .before .before .before .before .before .before .before .before .before .before .before .before .args in
+    let keep2 = c .before .before .before .before .keep2 in
+    call-asks (a .state .now) (a .y .now) (a .bits) (a .msg .now) (a .string .now) (a .sheet .now) (a .question .now) _ _ _ _ (call .before .before .before .read-rebuilder .ensures) (call .rebuilder-call .ensures) (string-kept (call .before .before .before .before .before .before)) (call .before .before .before .before .before .if2 .left) _ _ _ _ (c .before .before .before .before .before .before .before .before .answer2 .given .1) (keep2 .ensures .0) (keep2 .ensures .1 .0) (keep2 .ensures .1 .1)
+
+pub lo-rebuilder-call-spec : {M : Type 1} → statement M
+lo-rebuilder-call-spec =
+    tie.close
+    (tie.spec
+    keeps-string-rule-requires
+    returns
+    returns-2
+    read-rebuilder-requires
+    rebuilder-call-requires
+    enum-known-answer
+    pack-refusal-requires
+    enum-told
+    keep-requires
+    enum-known-answer-2
+    keep-requires-2
+    same-length
+    same-length-2
+    same-length-3
+    returns-3
+    same-length-4
+    same-length-5
+    same-length-6
+    same-length-7
+    returns-4
+    same-length-8
+    same-length-9
+    same-length-10
+    same-length-11
+    returns-5)

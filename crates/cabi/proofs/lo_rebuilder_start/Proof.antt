@@ -1,0 +1,100 @@
+use mathlib.Core.Path.{_≡_, sym, ap, _∙_}
+use mathlib.Core.Bool.{true}
+use native.Mathlib.Omega.{arith}
+use borrow.Author.Tests.{not-true, not-false}
+use Rattle.strings.specs.StringRule.{stringRule}
+use Rattle.protocol.specs.Limits.{withinLimits}
+use Rattle.cabi.specs.RebuilderBytesLaws.{start-bad-setting, start-bad-string, start-short, start-small, start-declined, start-begun}
+use borrow.Author.Needs.{needs}
+use Rattle.cabi.proofs.lo_rebuilder_start.Statement.{statement}
+use Rattle.cabi.proofs.lo_rebuilder_start.Tie as tie
+
+-- what the tests show
+limits-kept : (c : tie.Else1) → let a = c .before .before .before .before .before .before .args in withinLimits (record { m = a .m; h = a .h; k = a .k; key = a .key; ceiling = a .ceiling }) ≡ true
+limits-kept c = ap withinLimits (sym (c .before .before .new .ensures)) ∙ sym (c .before .is-within-limits .ensures) ∙ not-false _ (c .if1 .left)
+
+string-kept : (c : tie.Else2) → let a = c .before .before .before .before .before .before .before .before .args in stringRule (a .y .now) (a .bits) ≡ true
+string-kept c = sym (c .before .keeps-string-rule .ensures) ∙ not-false _ (c .if2 .left)
+
+new-requires : tie.Need-new-requires
+new-requires c κs = search needs
+
+is-within-limits-requires : tie.Need-is-within-limits-requires
+is-within-limits-requires c κs = search needs
+
+returns : tie.Need-returns
+returns c = start-bad-setting _ _ _ _ _ (ap withinLimits (sym (c .before .before .new .ensures)) ∙ sym (c .before .is-within-limits .ensures) ∙ not-true _ (c .if1 .taken))
+
+keeps-string-rule-requires : tie.Need-keeps-string-rule-requires
+keeps-string-rule-requires c κs = search needs
+
+returns-2 : tie.Need-returns-2
+returns-2 c = start-bad-string _ _ _ _ _ (limits-kept (c .before .before)) (sym (c .before .keeps-string-rule .ensures) ∙ not-true _ (c .if2 .taken))
+
+returns-3 : tie.Need-returns-3
+returns-3 c = start-short _ _ _ _ _ (limits-kept (c .before .before .before)) (string-kept (c .before)) (c .if3 .taken)
+
+rebuilder-start-requires : tie.Need-rebuilder-start-requires
+rebuilder-start-requires c κs = search needs
+
+enum-known-answer : tie.Need-enum-known-answer
+enum-known-answer c = search needs
+
+pack-refusal-requires : tie.Need-pack-refusal-requires
+pack-refusal-requires c κs = search needs
+
+enum-known-answer-2 : tie.Need-enum-known-answer-2
+enum-known-answer-2 c = search needs
+
+write-rebuilder-requires : tie.Need-write-rebuilder-requires
+write-rebuilder-requires c κs = search needs
+
+mul-result : tie.Need-mul-result
+mul-result c =
+    let call = c .before .before .before .before .before .before .before .before .before in
+    let a = call .before .before .before .before .before .before .before .before .before .before .before .args in
+    let small = start-small (record { m = a .m; h = a .h; k = a .k; key = a .key; ceiling = a .ceiling }) (call .before .before .before .before .before .before .before .new .ensures) (a .y .now) (a .bits) (a .state .now) (a .question .now) _ _ (call .rebuilder-start .ensures) _ (c .before .before .before .before .before .answer2 .given .1) in
+    omega arith
+
+same-length : tie.Need-same-length
+same-length c = search needs
+
+returns-4 : tie.Need-returns-4
+returns-4 c =
+    let call = c .before .before .before .before .before .before in
+    let a = call .before .before .before .before .before .before .before .before .before .before .before .args in
+    start-declined (record { m = a .m; h = a .h; k = a .k; key = a .key; ceiling = a .ceiling }) (call .before .before .before .before .before .before .before .new .ensures) (a .y .now) (a .bits) (a .state .now) (a .question .now) _ _ (call .rebuilder-start .ensures) (limits-kept (call .before .before .before .before .before)) (string-kept (call .before .before .before)) (call .before .before .if3 .left) _ _ (c .before .before .answer .given .1) (c .pack-refusal .ensures)
+
+same-length-2 : tie.Need-same-length-2
+same-length-2 c = search needs
+
+same-length-3 : tie.Need-same-length-3
+same-length-3 c = search needs
+
+returns-5 : tie.Need-returns-5
+returns-5 c =
+    let call = c .before .before .before .before .before .before .before .before .before in
+    let a = call .before .before .before .before .before .before .before .before .before .before .before .args in
+    start-begun (record { m = a .m; h = a .h; k = a .k; key = a .key; ceiling = a .ceiling }) (call .before .before .before .before .before .before .before .new .ensures) (a .y .now) (a .bits) (a .state .now) (a .question .now) _ _ (call .rebuilder-start .ensures) (limits-kept (call .before .before .before .before .before)) (string-kept (call .before .before .before)) (call .before .before .if3 .left) _ _ (c .before .before .before .before .before .answer2 .given .1) (c .before .before .write-rebuilder .ensures)
+
+pub lo-rebuilder-start-spec : {M : Type 1} → statement M
+lo-rebuilder-start-spec =
+    tie.close
+    (tie.spec
+    new-requires
+    is-within-limits-requires
+    returns
+    keeps-string-rule-requires
+    returns-2
+    returns-3
+    rebuilder-start-requires
+    enum-known-answer
+    pack-refusal-requires
+    enum-known-answer-2
+    write-rebuilder-requires
+    mul-result
+    same-length
+    returns-4
+    same-length-2
+    same-length-3
+    returns-5)

@@ -1,0 +1,121 @@
+-- What was written is read back, and the other way round.
+use mathlib.Core.Path.{_≡_, refl, sym, ap, _∙_}
+use mathlib.Core.List.{List, [], _∷_, _++_}
+use Prim.Native.Nat.{ℕ, suc, _+_, _*_, _/_, _%_, _≤_, _<_}
+use native.Mathlib.Nat.{add-assoc, add-zero, div-div-eq-div-mul, mod-eq-of-lt}
+use native.Mathlib.Omega.{arith}
+use native.Mathlib.Numerals.{add-one}
+use lib.ListN.{length, getD, set, take, drop}
+use lib.Seq.{sets, drop-cons, getD-append-add}
+use Rattle.strings.specs.PackLaws.{Bytes}
+use Rattle.cabi.specs.Bytes32.{bytesOf, numberAt}
+use Rattle.cabi.specs.StoreLaws.{getD-sets-before, getD-sets-behind, getD-sets-in}
+
+pub length-bytesOf : (v : ℕ) → length (bytesOf v) ≡ 4
+unfolding bytesOf
+length-bytesOf v = refl
+
+-- a number's digits to base 256
+pub digits : (v : ℕ) → v < 4294967296 → v % 256 + 256 * (v / 256 % 256) + 65536 * (v / 65536 % 256) + 16777216 * (v / 16777216 % 256) ≡ v
+digits v h =
+    let two : v / 65536 ≡ v / 256 / 256 = sym (div-div-eq-div-mul v 256 256) in
+    let three : v / 16777216 ≡ v / 65536 / 256 = sym (div-div-eq-div-mul v 65536 256) in
+    sums v (v / 256) (v / 65536) (v / 16777216) (v % 256) (v / 256 % 256) (v / 65536 % 256) (v / 16777216 % 256)
+    (omega arith)
+    (ap (λ (x : ℕ). v / 256 % 256 + 256 * x) two ∙ quotient (v / 256))
+    (ap (λ (x : ℕ). v / 65536 % 256 + 256 * x) three ∙ quotient (v / 65536))
+    (mod-eq-of-lt (let e : v / 16777216 < 256 = omega arith in e))
+  where
+    quotient : (x : ℕ) → x % 256 + 256 * (x / 256) ≡ x
+    quotient x = omega arith
+
+    sums : (v a b c q r s t : ℕ) → q + 256 * a ≡ v → r + 256 * b ≡ a → s + 256 * c ≡ b → t ≡ c → q + 256 * r + 65536 * s + 16777216 * t ≡ v
+    sums v a b c q r s t e f g h = omega arith
+
+-- what was written is read: in front of a list
+pub number-written : (v : ℕ) (l : List ℕ) → v < 4294967296 → numberAt (bytesOf v ++ l) 0 ≡ v
+unfolding bytesOf numberAt
+number-written v l h = digits v h
+
+-- behind a list, offsets count on
+pub number-behind : (p l : List ℕ) (i : ℕ) → numberAt (p ++ l) (length p + i) ≡ numberAt l i
+unfolding numberAt
+number-behind p l i =
+    rw (add-assoc (length p) i 1, add-assoc (length p) i 2, add-assoc (length p) i 3, getD-append-add p l i 0, getD-append-add p l (i + 1) 0, getD-append-add p l (i + 2) 0, getD-append-add p l (i + 3) 0) refl
+
+module _ (s : List ℕ) (at : ℕ) (vs : List ℕ) where
+  -- a list stored elsewhere changes no number
+  pub number-before : (i : ℕ) → i + 4 ≤ at → numberAt (sets s at vs) i ≡ numberAt s i
+  unfolding numberAt
+  number-before i h =
+      rw (getD-sets-before s at vs i 0 (omega arith), getD-sets-before s at vs (i + 1) 0 (omega arith), getD-sets-before s at vs (i + 2) 0 (omega arith), getD-sets-before s at vs (i + 3) 0 (omega arith)) refl
+
+  pub number-after : (i : ℕ) → at + length vs ≤ i → numberAt (sets s at vs) i ≡ numberAt s i
+  unfolding numberAt
+  number-after i h =
+      rw (getD-sets-behind s at vs i 0 (omega arith), getD-sets-behind s at vs (i + 1) 0 (omega arith), getD-sets-behind s at vs (i + 2) 0 (omega arith), getD-sets-behind s at vs (i + 3) 0 (omega arith)) refl
+
+  -- and a number in it is read where it stands
+  pub number-in : (i : ℕ) → i + 4 ≤ length vs → at + length vs ≤ length s → numberAt (sets s at vs) (at + i) ≡ numberAt vs i
+  unfolding numberAt
+  number-in i h k =
+      rw (add-assoc at i 1, add-assoc at i 2, add-assoc at i 3, getD-sets-in s at vs i 0 (omega arith) k, getD-sets-in s at vs (i + 1) 0 (omega arith) k, getD-sets-in s at vs (i + 2) 0 (omega arith) k, getD-sets-in s at vs (i + 3) 0 (omega arith) k) refl
+
+-- stored at any offset
+pub number-stored : (s : List ℕ) (at v : ℕ) → v < 4294967296 → at + 4 ≤ length s → numberAt (sets s at (bytesOf v)) at ≡ v
+unfolding bytesOf numberAt
+number-stored s at v h k =
+    ap (λ (i : ℕ). numberAt (sets s at (bytesOf v)) i) (sym (add-zero at)) ∙ number-in s at (bytesOf v) 0 (omega arith) (omega arith) ∙ digits v h
+
+-- what was read is below 2^32
+pub number-below : (s : List ℕ) (at : ℕ) → Bytes s → numberAt s at < 4294967296
+unfolding numberAt
+number-below s at b =
+    let b0 = b at in let b1 = b (at + 1) in let b2 = b (at + 2) in let b3 = b (at + 3) in
+    omega arith
+
+-- writing what was read gives the bytes back
+module _ (a b c d : ℕ) (ha : a < 256) (hb : b < 256) (hc : c < 256) (hd : d < 256) where
+  digit-0 : (a + 256 * b + 65536 * c + 16777216 * d) % 256 ≡ a
+  digit-0 = omega arith
+
+  digit-1 : (a + 256 * b + 65536 * c + 16777216 * d) / 256 % 256 ≡ b
+  digit-1 = omega arith
+
+  digit-2 : (a + 256 * b + 65536 * c + 16777216 * d) / 65536 % 256 ≡ c
+  digit-2 = omega arith
+
+  digit-3 : (a + 256 * b + 65536 * c + 16777216 * d) / 16777216 % 256 ≡ d
+  digit-3 = omega arith
+
+drop-next : (s : List ℕ) (i j : ℕ) → i < length s → i + 1 ≡ j → drop i s ≡ getD s i 0 ∷ drop j s
+drop-next s i j h e = drop-cons s i 0 h ∙ ap (λ (k : ℕ). getD s i 0 ∷ drop k s) (sym (add-one i) ∙ e)
+
+take-four : (s : List ℕ) (at : ℕ) → at + 4 ≤ length s → take 4 (drop at s) ≡ getD s at 0 ∷ getD s (at + 1) 0 ∷ getD s (at + 2) 0 ∷ getD s (at + 3) 0 ∷ []
+take-four s at h =
+    rw (drop-next s at (at + 1) (omega arith) refl, drop-next s (at + 1) (at + 2) (omega arith) (omega arith), drop-next s (at + 2) (at + 3) (omega arith) (omega arith), drop-next s (at + 3) (at + 4) (omega arith) (omega arith))
+    refl
+
+pub bytes-read : (s : List ℕ) (at : ℕ) → Bytes s → at + 4 ≤ length s → bytesOf (numberAt s at) ≡ take 4 (drop at s)
+unfolding bytesOf numberAt
+bytes-read s at b h =
+    let b0 = b at in let b1 = b (at + 1) in let b2 = b (at + 2) in let b3 = b (at + 3) in
+    rw (digit-0 _ _ _ _ b0 b1 b2 b3, digit-1 _ _ _ _ b0 b1 b2 b3, digit-2 _ _ _ _ b0 b1 b2 b3, digit-3 _ _ _ _ b0 b1 b2 b3)
+    (sym (take-four s at h))
+
+-- ---- for the code
+-- four bytes stored one by one
+pub four-stores : (s : List ℕ) (at v : ℕ)
+    → set (set (set (set s at (v % 256)) (at + 1) (v / 256 % 256)) (at + 2) (v / 65536 % 256)) (at + 3) (v / 16777216 % 256) ≡ sets s at (bytesOf v)
+unfolding bytesOf
+four-stores s at v =
+    let one : at + 1 ≡ suc at = omega arith in
+    let two : at + 2 ≡ suc (suc at) = omega arith in
+    let three : at + 3 ≡ suc (suc (suc at)) = omega arith in
+    rw (one, two, three) refl
+
+-- four bytes read one by one
+pub number-sum : (s : List ℕ) (at a b c d : ℕ) → a ≡ getD s at 0 → b ≡ getD s (at + 1) 0 → c ≡ getD s (at + 2) 0 → d ≡ getD s (at + 3) 0
+    → a + 256 * b + 65536 * c + 16777216 * d ≡ numberAt s at
+unfolding numberAt
+number-sum s at a b c d e f g h = omega arith

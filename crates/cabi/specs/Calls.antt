@@ -1,0 +1,99 @@
+-- The calls of both ends on bytes: what each gives as one number, and what every lent slice holds after it. A refusal leaves all bytes as they were.
+use mathlib.Core.Bool.{cond}
+use mathlib.Core.List.{List, _++_}
+use Prim.Native.Nat.{ℕ, _/_}
+use lib.ListN.{length, drop}
+use lib.Dec.{leb, eqb}
+use Rattle.strings.specs.StringRule.{stringRule}
+use Rattle.strings.specs.Refusals.{refusalNumber}
+use Rattle.strings.specs.declared.Refusal.the-variants.{BadSetting, BadString, OutOfTurn, NoRoom}
+use Rattle.codes.specs.Entries.{refusal, value}
+use Rattle.protocol.specs.declared.Settings.{Settings}
+use Rattle.protocol.specs.Limits.{withinLimits}
+use Rattle.protocol.specs.HolderCall.{Heard, declines, replies, unlessHeard, holderCall, freshHolder}
+use Rattle.protocol.specs.RebuilderCall.{Started, startDeclines, starts, unlessStarted, rebuilderStart, Taken, refuses, takes, unlessTaken, Rooms, rebuilderCall, stringAfter}
+use Rattle.cabi.specs.Layout.{holderBytes, holderOf, rebuilderBytes, rebuilderOf}
+use Rattle.cabi.specs.Sheet.{sheetBytesAfter}
+use Rattle.cabi.specs.Packing.{packed}
+
+-- a message at the front of a buffer, later bytes as they were
+abbrev pub atFront : List ℕ → List ℕ → List ℕ
+atFront m buffer = m ++ drop (length m) buffer
+
+-- ---- a fresh holder: 9 where the state has too few bytes
+pub record HolderMade : Type 0 where
+  pub result : ℕ
+  pub state : List ℕ
+
+unfoldable pub holderMade : List ℕ → HolderMade
+holderMade s = cond (leb 20 (length s))
+    (record { result = packed (value 0); state = atFront (holderBytes freshHolder) s })
+    (record { result = packed (refusal 9); state = s })
+
+-- ---- the holder's call
+-- with the bytes s of its state, the bytes x of X, their bit count, a message and a reply buffer of room bytes: bytes of another length than a state's get 3, after 2
+unfoldable pub holderOnBytes : (s x : List ℕ) (bits : ℕ) (msg : List ℕ) (room : ℕ) → Heard
+holderOnBytes s x bits msg room =
+    unlessHeard (stringRule x bits) BadString (
+    unlessHeard (eqb (length s) 20) OutOfTurn (
+    holderCall (holderOf s) x bits msg room))
+
+pub record HolderLeft : Type 0 where
+  pub result : ℕ
+  pub state : List ℕ
+  pub reply : List ℕ
+
+-- the value is the reply's length
+abbrev pub holderLeft : (s reply : List ℕ) → Heard → HolderLeft
+holderLeft s reply (declines e) = record { result = packed (refusal (refusalNumber e)); state = s; reply = reply }
+holderLeft s reply (replies next m) = record { result = packed (value (length m)); state = holderBytes next; reply = atFront m reply }
+
+-- ---- the rebuilder's start
+-- a state needs 564 bytes: 1, 2, 9
+unfoldable pub startOnBytes : Settings → (y : List ℕ) (bits : ℕ) (stateRoom room : ℕ) → Started
+startOnBytes S y bits stateRoom room =
+    unlessStarted (withinLimits S) BadSetting (
+    unlessStarted (stringRule y bits) BadString (
+    unlessStarted (leb 564 stateRoom) NoRoom (
+    rebuilderStart S y bits room)))
+
+pub record StartLeft : Type 0 where
+  pub result : ℕ
+  pub state : List ℕ
+  pub question : List ℕ
+
+-- the value is the first question's length
+abbrev pub startLeft : (s question : List ℕ) → Started → StartLeft
+startLeft s question (startDeclines e) = record { result = packed (refusal (refusalNumber e)); state = s; question = question }
+startLeft s question (starts st m) = record { result = packed (value (length m)); state = atFront (rebuilderBytes st) s; question = atFront m question }
+
+-- ---- the rebuilder's call
+-- with the bytes s of its state, the bytes y of Y, their bit count and a message: bytes of another length than a state's get 3, after 2
+unfoldable pub rebuilderOnBytes : (s y : List ℕ) (bits : ℕ) (msg : List ℕ) → Rooms → Taken
+rebuilderOnBytes s y bits msg rooms =
+    unlessTaken (stringRule y bits) BadString (
+    unlessTaken (eqb (length s) 564) OutOfTurn (
+    rebuilderCall (rebuilderOf s) y bits msg rooms))
+
+-- the room in lent bytes: the sheet's rows have 12 bytes each
+abbrev pub roomsIn : (string sheet question : List ℕ) → Rooms
+roomsIn string sheet question = record { string = length string; sheet = length sheet / 12; question = length question }
+
+pub record RebuilderLeft : Type 0 where
+  pub result : ℕ
+  pub state : List ℕ
+  pub string : List ℕ
+  pub sheet : List ℕ
+  pub question : List ℕ
+
+-- the value is the next question's length, 0 at the finish
+abbrev pub rebuilderLeft : (s string sheet question : List ℕ) → Taken → RebuilderLeft
+rebuilderLeft s string sheet question (refuses e) =
+    record { result = packed (refusal (refusalNumber e)); state = s; string = string; sheet = sheet; question = question }
+rebuilderLeft s string sheet question (takes k m) = record {
+  result = packed (value (length m));
+  state = rebuilderBytes (k .state);
+  string = stringAfter string (k .string);
+  sheet = sheetBytesAfter sheet (k .sheet);
+  question = atFront m question;
+}

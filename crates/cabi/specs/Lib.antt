@@ -1,0 +1,14 @@
+-- What a reader must believe of the C interface: Bytes32, Layout, Sheet, Packing, Calls. The rest is laws.
+pub mod Bytes32
+pub mod Layout
+pub mod Sheet
+pub mod Packing
+pub mod Calls
+pub mod StoreLaws
+pub mod Bytes32Laws
+pub mod LayoutLaws
+pub mod SheetLaws
+pub mod PackingLaws
+pub mod HolderBytesLaws
+pub mod RebuilderBytesLaws
+pub mod CarriedLaws

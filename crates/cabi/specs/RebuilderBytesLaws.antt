@@ -1,0 +1,310 @@
+-- Laws of the rebuilder's start and call on bytes: its returns, that a change of the sheet lies in it, that results are small.
+use mathlib.Core.Path.{_≡_, refl, sym, ap, _∙_}
+use mathlib.Core.Bool.{true, false, _&&_}
+use mathlib.Core.List.{List, [], _∷_, _++_, append-nil}
+use mathlib.Core.Option.{Option, none, some}
+use Prim.Native.Nat.{ℕ, zero, suc, _+_, _-_, _*_, _/_, _≤_, _<_}
+use native.Mathlib.Omega.{arith}
+use lib.ListN.{length, drop, length-append, drop-of-length-le}
+use lib.Dec.{leb}
+use borrow.Author.Tests.{le-leb, lt-leb, leb-true, eq-eqb, ne-eqb}
+use Rattle.strings.specs.Bits.{bytesFor, range}
+use Rattle.strings.specs.StringRule.{stringRule}
+use Rattle.strings.specs.Tests.{and-left, and-right}
+use Rattle.strings.specs.Refusals.{refusalNumber}
+use Rattle.strings.specs.declared.Refusal.{Refusal}
+use Rattle.codes.specs.Entries.{refusal}
+use Rattle.messages.specs.declared.Question.{Question}
+use Rattle.messages.specs.declared.Question.the-variants.{AskOpen, AskHash, AskSyndrome, AskBits}
+use Rattle.messages.specs.Numbers.{number}
+use Rattle.messages.specs.NumberLaws.{size-most}
+use Rattle.messages.specs.Kinds.{kindNumber}
+use Rattle.messages.specs.KindLaws.{kind-size}
+use Rattle.messages.specs.Questions.{questionKind, questionBytes}
+use Rattle.messages.specs.QuestionLaws.{fieldBytes, question-parts}
+use Rattle.messages.specs.Answers.{Answer}
+use Rattle.protocol.specs.declared.Settings.{Settings}
+use Rattle.protocol.specs.declared.Piece.{Piece}
+use Rattle.protocol.specs.declared.Rebuilder.{Rebuilder}
+use Rattle.protocol.specs.Limits.{withinLimits}
+use Rattle.protocol.specs.Segments.{Effect, settles, stays, splits, effect}
+use Rattle.protocol.specs.States.{top, held, planned}
+use Rattle.protocol.specs.Soundness.{rowsLeft}
+use Rattle.protocol.specs.RebuilderCall.{Started, startDeclines, starts, rebuilderStart, Taken, refuses, takes, Step, Rooms, rebuilderCall, roomFor, bitsKnown, writtenQuestion, numberedStage, effectStep, openingStep, wholeStep, stepOf, stringAfter}
+use Rattle.protocol.specs.Steps.{step-opening, step-pieces, step-whole}
+use Rattle.protocol.specs.SoundSteps.{PhaseOf, isOpening, isPieces, isWhole, phase-of, sound-is}
+use Rattle.protocol.specs.Asking.{TakenCall, taken-call}
+use Rattle.protocol.specs.Delivery.{started-is}
+use Rattle.ends.specs.declared.rebuilder.StartAnswer.the-variants.{Begun, NotBegun}
+use Rattle.ends.specs.declared.rebuilder.StartOut.{StartOut}
+use Rattle.ends.specs.declared.rebuilder.RebuilderAnswer.{RebuilderAnswer}
+use Rattle.ends.specs.declared.rebuilder.RebuilderAnswer.the-variants.{Asks, Finished, Refused}
+use Rattle.ends.specs.declared.rebuilder.RebuilderOut.{RebuilderOut}
+use Rattle.ends.specs.RebuilderCode.{StartSaid, saidStart, leavesStart, RebuilderSaid, saidRebuilder, leavesRebuilder, nextAnswer}
+use Rattle.cabi.specs.Layout.{rebuilderBytes, rebuilderOf}
+use Rattle.cabi.specs.LayoutLaws.{length-rebuilder}
+use Rattle.cabi.specs.Sheet.{sheetBytesAfter, rowsNeeded}
+use Rattle.cabi.specs.Packing.{packed}
+use Rattle.cabi.specs.Calls.{atFront, startOnBytes, startLeft, rebuilderOnBytes, roomsIn, rebuilderLeft}
+
+-- ---- a question has at most 16 bytes, whatever its numbers
+question-most : (q : Question) → length (questionBytes q) ≤ 16
+question-most q =
+    let e = length-append (number (kindNumber (questionKind q))) (fieldBytes q) in
+    let k = kind-size (questionKind q) in
+    let p = ap length (question-parts q) in
+    let f = fields q in
+    omega arith
+  where
+    two : (a b : ℕ) → length (number a ++ number b) ≤ 10
+    two a b = let e = length-append (number a) (number b) in let i = size-most a in let j = size-most b in omega arith
+
+    fields : (q : Question) → length (fieldBytes q) ≤ 15
+    fields (AskOpen h key) = let e = length-append (number 1) (number h ++ number key) in let i = size-most 1 in let j = two h key in omega arith
+    fields (AskHash start len) = let j = two start len in omega arith
+    fields (AskSyndrome start len) = let j = two start len in omega arith
+    fields (AskBits start len) = let j = two start len in omega arith
+
+written-most : (o : Option Question) → length (writtenQuestion o) ≤ 16
+written-most none = omega arith
+written-most (some q) = question-most q
+
+-- ---- a taken call's change of the sheet lies in the sheet
+-- waiting pieces leave room for a row
+rows-some : (m w : ℕ) (l : List Piece) → 0 < w → 1 ≤ rowsLeft m (held w l)
+unfolding rowsLeft
+rows-some m zero l h = absurd (omega arith)
+rows-some m (suc w) l h = omega arith
+
+effect-rows : (st : Rebuilder) (size : ℕ) (e : Effect) → rowsNeeded (effectStep st size e .sheet) ≤ st .rows + 1
+unfolding effectStep
+effect-rows st size (settles w b) = omega arith
+effect-rows st size (stays t) = omega arith
+effect-rows st size (splits s r b) = omega arith
+
+known-later : (st : Rebuilder) (a : Answer) → 0 < st .phase → bitsKnown st a ≡ st .n
+known-later st a h = rw (ne-eqb (st .phase) 0 (λ z. omega arith)) refl
+
+module _ (st : Rebuilder) (y : List ℕ) (bits : ℕ) (msg : List ℕ) (rooms : Rooms) (step : Step) (next : List ℕ) (e : rebuilderCall st y bits msg rooms ≡ takes step next) where
+  sheet-room : (n : ℕ) → roomFor st n rooms ≡ true → 2 * (n / st .settings .m) + 1 ≤ rooms .sheet
+  sheet-room n r =
+      leb-true (2 * (n / st .settings .m) + 1) (rooms .sheet)
+      (and-left (leb (2 * (n / st .settings .m) + 1) (rooms .sheet)) (leb 8 (rooms .question))
+      (and-right (leb (bytesFor n) (rooms .string)) (leb (2 * (n / st .settings .m) + 1) (rooms .sheet) && leb 8 (rooms .question)) r))
+
+  pub taken-rows : rowsNeeded (step .sheet) ≤ rooms .sheet
+  taken-rows = rw (k .steps) (go (phase-of st (k .q) (sound-is st (k .sound-before) .1) (k .asked)))
+    where
+      k : TakenCall st y msg rooms step next
+      k = taken-call st y bits msg rooms step next e
+
+      later : 0 < st .phase → 2 * (st .n / st .settings .m) + 1 ≤ rooms .sheet
+      later h = sheet-room (st .n) (rw (known-later st (k .a) h) at (k .room))
+
+      go : PhaseOf st (k .q) → rowsNeeded (stepOf st y (length msg) (k .a) .sheet) ≤ rooms .sheet
+      go (isOpening p i d) = rw (step-opening st y (length msg) (k .a) p) (unfold openingStep in omega arith)
+      go (isPieces p i w d) =
+          let f : Effect = effect (st .settings) (k .a) (top st .p) (range y (top st .y) (top st .q)) (numberedStage (st .settings) (top st .p) (top st .q) (st .stage)) in
+          let r = rows-some (st .settings .m) (st .waiting) (st .pieces) w in
+          let t = i .stack .rows in
+          let l = later (omega arith) in
+          let g = effect-rows st (length msg) f in
+          rw (step-pieces st y (length msg) (k .a) p) (omega arith)
+      go (isWhole p i d) =
+          let t = i .stack .rows in
+          let l = later (omega arith) in
+          rw (step-whole st y (length msg) (k .a) (omega arith)) (unfold wholeStep in omega arith)
+
+  pub taken-small : length next ≤ 16
+  taken-small = rw (taken-call st y bits msg rooms step next e .asks) (written-most (planned (stepOf st y (length msg) (taken-call st y bits msg rooms step next e .a) .state)))
+
+-- ---- the returns of the call
+module _ (s y : List ℕ) (bits : ℕ) (msg string sheet question : List ℕ) where
+  pub call-bad-string : stringRule y bits ≡ false
+      → record { result = 2; state = s; string = string; sheet = sheet; question = question } ≡ rebuilderLeft s string sheet question (rebuilderOnBytes s y bits msg (roomsIn string sheet question))
+  unfolding rebuilderOnBytes packed
+  call-bad-string e = rw e refl
+
+  pub call-no-state : stringRule y bits ≡ true → (length s ≡ 564 → ⊥)
+      → record { result = 3; state = s; string = string; sheet = sheet; question = question } ≡ rebuilderLeft s string sheet question (rebuilderOnBytes s y bits msg (roomsIn string sheet question))
+  unfolding rebuilderOnBytes packed
+  call-no-state e f = rw (e, ne-eqb (length s) 564 f) refl
+
+  rebuilder-called : stringRule y bits ≡ true → length s ≡ 564
+      → rebuilderOnBytes s y bits msg (roomsIn string sheet question) ≡ rebuilderCall (rebuilderOf s) y bits msg (roomsIn string sheet question)
+  unfolding rebuilderOnBytes
+  rebuilder-called e f = rw (e, eq-eqb (length s) 564 f) refl
+
+-- the length of the question that an answer says
+abbrev askedSize : RebuilderAnswer → ℕ
+askedSize (Asks size) = size
+askedSize Finished = 0
+askedSize (Refused e) = 0
+
+next-size : (m : List ℕ) → askedSize (nextAnswer m) ≡ length m
+next-size [] = refl
+next-size (b ∷ m) = refl
+
+next-taken : (m : List ℕ) (e : Refusal) → nextAnswer m ≡ Refused e → ⊥
+next-taken [] e h = let z : _≡_ {A = ℕ} 0 1 = cc in omega arith
+next-taken (b ∷ m) e h = let z : _≡_ {A = ℕ} 0 1 = cc in omega arith
+
+-- what the call on the state says, as bytes
+module _ (s string sheet question string′ question′ : List ℕ) (st : Rebuilder) (out : RebuilderOut) where
+  said-declined : (t : Taken) (e : Refusal) → saidRebuilder out string′ question′ ≡ leavesRebuilder st string question t → out .answer ≡ Refused e
+      → record { result = packed (refusal (refusalNumber e)); state = s; string = string′; sheet = sheet; question = question′ } ≡ rebuilderLeft s string sheet question t
+  said-declined (refuses d) e k f =
+      let a : out .answer ≡ Refused d = ap (λ (w : RebuilderSaid). w .answer) k in
+      let b : e ≡ d = cc in
+      let c : string′ ≡ string = ap (λ (w : RebuilderSaid). w .string) k in
+      let g : question′ ≡ question = ap (λ (w : RebuilderSaid). w .question) k in
+      rw (b, c, g) refl
+  said-declined (takes j m) e k f =
+      let a : out .answer ≡ nextAnswer m = ap (λ (w : RebuilderSaid). w .answer) k in
+      absurd (next-taken m e (sym a ∙ f))
+
+  said-taken : (t : Taken) (s′ sheet′ : List ℕ) → saidRebuilder out string′ question′ ≡ leavesRebuilder st string question t → ((e : Refusal) → out .answer ≡ Refused e → ⊥)
+      → s′ ≡ rebuilderBytes (out .state) → sheet′ ≡ sheetBytesAfter sheet (out .sheet)
+      → record { result = askedSize (out .answer) * 16; state = s′; string = string′; sheet = sheet′; question = question′ } ≡ rebuilderLeft s string sheet question t
+  unfolding packed
+  said-taken (refuses d) s′ sheet′ k n g h = absurd (n d (ap (λ (w : RebuilderSaid). w .answer) k))
+  said-taken (takes j m) s′ sheet′ k n g h =
+      let a : askedSize (out .answer) ≡ length m = ap (λ (w : RebuilderSaid). askedSize (w .answer)) k ∙ next-size m in
+      let b : out .state ≡ j .state = ap (λ (w : RebuilderSaid). w .state) k in
+      let c : out .sheet ≡ j .sheet = ap (λ (w : RebuilderSaid). w .sheet) k in
+      let d : string′ ≡ stringAfter string (j .string) = ap (λ (w : RebuilderSaid). w .string) k in
+      let f : question′ ≡ atFront m question = ap (λ (w : RebuilderSaid). w .question) k in
+      rw (a, g, b, h, c, d, f) refl
+
+  said-rows : (t : Taken) (n : ℕ) → saidRebuilder out string′ question′ ≡ leavesRebuilder st string question t
+      → ((j : Step) (m : List ℕ) → t ≡ takes j m → rowsNeeded (j .sheet) ≤ n) → rowsNeeded (out .sheet) ≤ n
+  said-rows (refuses d) n k h = let c = ap (λ (w : RebuilderSaid). rowsNeeded (w .sheet)) k in omega arith
+  said-rows (takes j m) n k h = let c = ap (λ (w : RebuilderSaid). rowsNeeded (w .sheet)) k in let i = h j m refl in omega arith
+
+  said-small : (t : Taken) → saidRebuilder out string′ question′ ≡ leavesRebuilder st string question t
+      → ((j : Step) (m : List ℕ) → t ≡ takes j m → length m ≤ 16) → askedSize (out .answer) ≤ 16
+  said-small (refuses d) k h = let c = ap (λ (w : RebuilderSaid). askedSize (w .answer)) k in omega arith
+  said-small (takes j m) k h = let c = ap (λ (w : RebuilderSaid). askedSize (w .answer)) k in let i = h j m refl in let l = next-size m in omega arith
+
+-- for the code: the answer's three cases; st is the state that was read
+module _ (s y : List ℕ) (bits : ℕ) (msg string sheet question string′ question′ : List ℕ) (st : Rebuilder) (out : RebuilderOut) (g : st ≡ rebuilderOf s)
+    (k : saidRebuilder out string′ question′ ≡ leavesRebuilder st string question (rebuilderCall st y bits msg (roomsIn string sheet question))) where
+  pub call-rows : 12 * rowsNeeded (out .sheet) ≤ length sheet
+  call-rows =
+      let r = said-rows s string sheet question string′ question′ st out (rebuilderCall st y bits msg (roomsIn string sheet question)) (length sheet / 12) k
+      (λ j m t. taken-rows st y bits msg (roomsIn string sheet question) j m t) in
+      omega arith
+
+  asked-small : askedSize (out .answer) ≤ 16
+  asked-small =
+      said-small s string sheet question string′ question′ st out (rebuilderCall st y bits msg (roomsIn string sheet question)) k
+      (λ j m t. taken-small st y bits msg (roomsIn string sheet question) j m t)
+
+  pub call-small : (size : ℕ) → out .answer ≡ Asks size → size ≤ 16
+  call-small size a = let b = ap askedSize a in let c = asked-small in omega arith
+
+  module _ (e : stringRule y bits ≡ true) (f : length s ≡ 564) where
+    called : rebuilderOnBytes s y bits msg (roomsIn string sheet question) ≡ rebuilderCall st y bits msg (roomsIn string sheet question)
+    called = rebuilder-called s y bits msg string sheet question e f ∙ ap (λ (z : Rebuilder). rebuilderCall z y bits msg (roomsIn string sheet question)) (sym g)
+
+    pub call-declined : (d : Refusal) (r : ℕ) → out .answer ≡ Refused d → r ≡ packed (refusal (refusalNumber d))
+        → record { result = r; state = s; string = string′; sheet = sheet; question = question′ } ≡ rebuilderLeft s string sheet question (rebuilderOnBytes s y bits msg (roomsIn string sheet question))
+    call-declined d r a h =
+        rw (called, h) (said-declined s string sheet question string′ question′ st out (rebuilderCall st y bits msg (roomsIn string sheet question)) d k a)
+
+    taken : (s′ sheet′ : List ℕ) (r : ℕ) → r ≡ askedSize (out .answer) * 16 → ((d : Refusal) → out .answer ≡ Refused d → ⊥) → s′ ≡ rebuilderBytes (out .state) ++ drop 564 s → sheet′ ≡ sheetBytesAfter sheet (out .sheet)
+        → record { result = r; state = s′; string = string′; sheet = sheet′; question = question′ } ≡ rebuilderLeft s string sheet question (rebuilderOnBytes s y bits msg (roomsIn string sheet question))
+    taken s′ sheet′ r a n h i =
+        let whole : rebuilderBytes (out .state) ++ drop 564 s ≡ rebuilderBytes (out .state)
+        = ap (λ (l : List ℕ). rebuilderBytes (out .state) ++ l) (drop-of-length-le s {i = 564} (let z = f in omega arith)) ∙ append-nil (rebuilderBytes (out .state)) in
+        rw (called, a) (said-taken s string sheet question string′ question′ st out (rebuilderCall st y bits msg (roomsIn string sheet question)) s′ sheet′ k n (h ∙ whole) i)
+
+    pub call-asks : (size r : ℕ) (s′ sheet′ : List ℕ) → out .answer ≡ Asks size → r ≡ size * 16 → s′ ≡ rebuilderBytes (out .state) ++ drop 564 s → sheet′ ≡ sheetBytesAfter sheet (out .sheet)
+        → record { result = r; state = s′; string = string′; sheet = sheet′; question = question′ } ≡ rebuilderLeft s string sheet question (rebuilderOnBytes s y bits msg (roomsIn string sheet question))
+    call-asks size r s′ sheet′ a h i j =
+        taken s′ sheet′ r (h ∙ ap (λ (n : ℕ). n * 16) (sym (ap askedSize a))) (λ d b. let c : Asks size ≡ Refused d = sym a ∙ b in let z : _≡_ {A = ℕ} 0 1 = cc in omega arith) i j
+
+    pub call-finished : (r : ℕ) (s′ sheet′ : List ℕ) → out .answer ≡ Finished → r ≡ 0 → s′ ≡ rebuilderBytes (out .state) ++ drop 564 s → sheet′ ≡ sheetBytesAfter sheet (out .sheet)
+        → record { result = r; state = s′; string = string′; sheet = sheet′; question = question′ } ≡ rebuilderLeft s string sheet question (rebuilderOnBytes s y bits msg (roomsIn string sheet question))
+    call-finished r s′ sheet′ a h i j =
+        taken s′ sheet′ r (h ∙ ap (λ (n : ℕ). n * 16) (sym (ap askedSize a))) (λ d b. let c : Finished ≡ Refused d = sym a ∙ b in let z : _≡_ {A = ℕ} 0 1 = cc in omega arith) i j
+
+-- ---- the returns of the start
+module _ (S : Settings) (y : List ℕ) (bits : ℕ) (s question : List ℕ) where
+  pub start-bad-setting : withinLimits S ≡ false
+      → record { result = 1; state = s; question = question } ≡ startLeft s question (startOnBytes S y bits (length s) (length question))
+  unfolding startOnBytes packed
+  start-bad-setting e = rw e refl
+
+  pub start-bad-string : withinLimits S ≡ true → stringRule y bits ≡ false
+      → record { result = 2; state = s; question = question } ≡ startLeft s question (startOnBytes S y bits (length s) (length question))
+  unfolding startOnBytes packed
+  start-bad-string e f = rw (e, f) refl
+
+  module _ (e : withinLimits S ≡ true) (f : stringRule y bits ≡ true) where
+    pub start-short : length s < 564
+        → record { result = 9; state = s; question = question } ≡ startLeft s question (startOnBytes S y bits (length s) (length question))
+    unfolding startOnBytes packed
+    start-short h = rw (e, f, lt-leb 564 (length s) h) refl
+
+    started : 564 ≤ length s → startOnBytes S y bits (length s) (length question) ≡ rebuilderStart S y bits (length question)
+    unfolding startOnBytes
+    started h = rw (e, f, le-leb 564 (length s) h) refl
+
+module _ (s question question′ : List ℕ) (out : StartOut) where
+  start-declines : (t : Started) (e : Refusal) → saidStart out question′ ≡ leavesStart question t → out .answer ≡ NotBegun e
+      → record { result = packed (refusal (refusalNumber e)); state = s; question = question′ } ≡ startLeft s question t
+  start-declines (startDeclines d) e k f =
+      let a : out .answer ≡ NotBegun d = ap (λ (w : StartSaid). w .answer) k in
+      let b : e ≡ d = cc in
+      let g : question′ ≡ question = ap (λ (w : StartSaid). w .question) k in
+      rw (b, g) refl
+  start-declines (starts st m) e k f =
+      let a : out .answer ≡ Begun (length m) = ap (λ (w : StartSaid). w .answer) k in
+      let z : _≡_ {A = ℕ} 0 1 = cc in absurd (omega arith)
+
+  start-begins : (t : Started) (size : ℕ) (s′ : List ℕ) → saidStart out question′ ≡ leavesStart question t → out .answer ≡ Begun size
+      → s′ ≡ rebuilderBytes (out .state) ++ drop 564 s
+      → record { result = size * 16; state = s′; question = question′ } ≡ startLeft s question t
+  unfolding packed
+  start-begins (startDeclines d) size s′ k f g =
+      let a : out .answer ≡ NotBegun d = ap (λ (w : StartSaid). w .answer) k in
+      let z : _≡_ {A = ℕ} 0 1 = cc in absurd (omega arith)
+  start-begins (starts st m) size s′ k f g =
+      let a : out .answer ≡ Begun (length m) = ap (λ (w : StartSaid). w .answer) k in
+      let b : size ≡ length m = cc in
+      let c : out .state ≡ st = ap (λ (w : StartSaid). w .state) k in
+      let d : question′ ≡ atFront m question = ap (λ (w : StartSaid). w .question) k in
+      let h : s′ ≡ atFront (rebuilderBytes st) s
+      = g ∙ ap (λ (z : Rebuilder). rebuilderBytes z ++ drop 564 s) c ∙ ap (λ (n : ℕ). rebuilderBytes st ++ drop n s) (sym (length-rebuilder st)) in
+      rw (b, h, d) refl
+
+  start-size : (t : Started) (size : ℕ) → saidStart out question′ ≡ leavesStart question t → out .answer ≡ Begun size
+      → ((st : Rebuilder) (m : List ℕ) → t ≡ starts st m → length m ≤ 16) → size ≤ 16
+  start-size (startDeclines d) size k f h =
+      let a : out .answer ≡ NotBegun d = ap (λ (w : StartSaid). w .answer) k in
+      let z : _≡_ {A = ℕ} 0 1 = cc in absurd (omega arith)
+  start-size (starts st m) size k f h =
+      let a : out .answer ≡ Begun (length m) = ap (λ (w : StartSaid). w .answer) k in
+      let b : size ≡ length m = cc in
+      let i = h st m refl in omega arith
+
+-- for the code: the answer's two cases; the settings were given as a struct
+module _ (S : Settings) {given : Settings} (same : given ≡ S) (y : List ℕ) (bits : ℕ) (s question question′ : List ℕ) (out : StartOut)
+    (said : saidStart out question′ ≡ leavesStart question (rebuilderStart given y bits (length question))) where
+  k : saidStart out question′ ≡ leavesStart question (rebuilderStart S y bits (length question))
+  k = said ∙ ap (λ (z : Settings). leavesStart question (rebuilderStart z y bits (length question))) same
+
+  pub start-small : (size : ℕ) → out .answer ≡ Begun size → size ≤ 16
+  start-small size a =
+      start-size s question question′ out (rebuilderStart S y bits (length question)) size k a
+      (λ st m t. rw (started-is S y bits (length question) st m t .question) (question-most (AskOpen (S .h) (S .key))))
+
+  module _ (e : withinLimits S ≡ true) (f : stringRule y bits ≡ true) (h : 564 ≤ length s) where
+    pub start-declined : (d : Refusal) (r : ℕ) → out .answer ≡ NotBegun d → r ≡ packed (refusal (refusalNumber d))
+        → record { result = r; state = s; question = question′ } ≡ startLeft s question (startOnBytes S y bits (length s) (length question))
+    start-declined d r a i = rw (started S y bits s question e f h, i) (start-declines s question question′ out (rebuilderStart S y bits (length question)) d k a)
+
+    pub start-begun : (size : ℕ) (s′ : List ℕ) → out .answer ≡ Begun size → s′ ≡ rebuilderBytes (out .state) ++ drop 564 s
+        → record { result = size * 16; state = s′; question = question′ } ≡ startLeft s question (startOnBytes S y bits (length s) (length question))
+    start-begun size s′ a i = rw (started S y bits s question e f h) (start-begins s question question′ out (rebuilderStart S y bits (length question)) size s′ k a i)

@@ -1,0 +1,192 @@
+// The C interface: what a host calls, on numbers and byte slices. include/lunetteorris.h declares it, docs/LAYOUT.md has the layouts.
+// A result is value * 16 + refusal (specs/Packing.antt).
+ghost use mathlib.Core.Path.{_≡_};
+ghost use mathlib.Core.List.{_++_};
+ghost use Prim.Native.Nat.{_*_, _≤_};
+ghost use lib.ListN.{length, drop};
+ghost use Rattle.codes.specs.Entries.{syndromeCall, hashCall, repairCall, leaves};
+ghost use Rattle.ends.specs.AnchorSearch.{anchorSearch};
+ghost use Rattle.cabi.specs.Packing.{packed, numbered, outcomeNumber, placeNumber};
+ghost use Rattle.cabi.specs.Calls.{holderMade, holderOnBytes, holderLeft, startOnBytes, startLeft, rebuilderOnBytes, rebuilderLeft, roomsIn};
+ghost use Rattle.cabi.specs.Layout.{rebuilderBytes};
+ghost use Rattle.cabi.specs.Sheet.{sheetBytesAfter, rowsNeeded};
+use ends::HolderAnswer;
+use ends::RebuilderAnswer;
+use ends::StartAnswer;
+use protocol::Rebuilder;
+use protocol::Settings;
+use protocol::SheetChange;
+
+mod layout;
+mod numbers;
+mod packing;
+mod sheet;
+
+// The syndrome of a string.
+#[no_mangle]
+pub extern "C" fn lo_syndrome(s: &[u8], bits: usize) -> u64
+    ensures { λ r. ⌜ r ≡ packed (syndromeCall (now (s .entry)) bits) ⌝ }
+{
+    packing::pack_number(codes::syndrome(s, bits))
+}
+
+// The hash of a string.
+#[no_mangle]
+pub extern "C" fn lo_hash(s: &[u8], bits: usize, h: u32, key: u32) -> u64
+    ensures { λ r. ⌜ r ≡ packed (hashCall (now (s .entry)) bits h key) ⌝ }
+{
+    packing::pack_number(codes::hash(s, bits, h, key))
+}
+
+// The repair of a string to one of n bits with the syndrome a: 1 where it is done, 0 where there is none.
+#[no_mangle]
+pub extern "C" fn lo_repair(s: &[u8], bits: usize, n: usize, a: usize, out: &mut [u8]) -> u64
+    ensures { λ r. ⌜ r ≡ packed (numbered outcomeNumber (leaves (now (out .entry)) (repairCall (now (s .entry)) bits n a (length (now (out .entry)))) .answer)) ⌝ }
+    ensures { λ r. ⌜ now (out .exit) ≡ leaves (now (out .entry)) (repairCall (now (s .entry)) bits n a (length (now (out .entry)))) .buffer ⌝ }
+{
+    let answer = codes::repair(s, bits, n, a, out);
+    packing::pack_repair(answer)
+}
+
+// The place of an anchor plus 1, or 0 where there is none.
+#[no_mangle]
+pub extern "C" fn lo_anchor(
+    y: &[u8],
+    bits: usize,
+    start: usize,
+    q: usize,
+    p: usize,
+    s: usize,
+    m: u32,
+    k: u32,
+    a: &[u8],
+) -> u64
+    ensures { λ r. ⌜ r ≡ packed (numbered placeNumber (anchorSearch (now (y .entry)) bits start q p s m k (now (a .entry)))) ⌝ }
+{
+    let answer = ends::find_anchor(y, bits, start, q, p, s, m, k, a);
+    packing::pack_place(answer)
+}
+
+// The state of a holder that has answered nothing.
+#[no_mangle]
+pub extern "C" fn lo_holder_fresh(state: &mut [u8]) -> u64
+    ensures { λ r. ⌜ record { result = r; state = now (state .exit) } ≡ holderMade (now (state .entry)) ⌝ }
+{
+    if state.len() < 20 {
+        return 9;
+    }
+    let fresh = ends::fresh_holder();
+    layout::write_holder(state, fresh);
+    0
+}
+
+// The holder's call: the reply's length.
+#[no_mangle]
+pub extern "C" fn lo_holder_answer(
+    state: &mut [u8],
+    x: &[u8],
+    bits: usize,
+    msg: &[u8],
+    reply: &mut [u8],
+) -> u64
+    ensures { λ r. ⌜ record { result = r; state = now (state .exit); reply = now (reply .exit) } ≡ holderLeft (now (state .entry)) (now (reply .entry)) (holderOnBytes (now (state .entry)) (now (x .entry)) bits (now (msg .entry)) (length (now (reply .entry)))) ⌝ }
+{
+    if !strings::keeps_string_rule(x, bits) {
+        return 2;
+    }
+    if state.len() != 20 {
+        return 3;
+    }
+    let st = layout::read_holder(state);
+    let out = ends::holder_call(st, x, bits, msg, reply);
+    let answer = out.answer;
+    match answer {
+        HolderAnswer::Refused(e) => packing::pack_refusal(e),
+        HolderAnswer::Replied(size) => {
+            layout::write_holder(state, out.state);
+            (size as u64) * 16
+        }
+    }
+}
+
+// The rebuilder's start: the first question's length.
+#[no_mangle]
+pub extern "C" fn lo_rebuilder_start(
+    m: u32,
+    h: u32,
+    k: u32,
+    key: u32,
+    ceiling: u32,
+    y: &[u8],
+    bits: usize,
+    state: &mut [u8],
+    question: &mut [u8],
+) -> u64
+    ensures { λ r. ⌜ record { result = r; state = now (state .exit); question = now (question .exit) } ≡ startLeft (now (state .entry)) (now (question .entry)) (startOnBytes (record { m = m; h = h; k = k; key = key; ceiling = ceiling }) (now (y .entry)) bits (length (now (state .entry))) (length (now (question .entry)))) ⌝ }
+{
+    let s = Settings::new(m, h, k, key, ceiling);
+    if !s.is_within_limits() {
+        return 1;
+    }
+    if !strings::keeps_string_rule(y, bits) {
+        return 2;
+    }
+    if state.len() < 564 {
+        return 9;
+    }
+    let out = ends::rebuilder_start(s, y, bits, question);
+    let answer = out.answer;
+    match answer {
+        StartAnswer::NotBegun(e) => packing::pack_refusal(e),
+        StartAnswer::Begun(size) => {
+            layout::write_rebuilder(state, out.state);
+            (size as u64) * 16
+        }
+    }
+}
+
+// What a taken call of the rebuilder leaves in state and sheet, and its result for a question of that length.
+fn keep(state: &mut [u8], sheet: &mut [u8], st: Rebuilder, change: SheetChange, size: usize) -> u64
+    requires { ⌜ 564 ≤ length (now state) ⌝ }
+    requires { ⌜ 12 * rowsNeeded change ≤ length (now sheet) ⌝ }
+    requires { ⌜ size ≤ 16 ⌝ }
+    ensures { λ r. ⌜ r ≡ size * 16 ⌝ }
+    ensures { λ r. ⌜ now (state .exit) ≡ rebuilderBytes st ++ drop 564 (now (state .entry)) ⌝ }
+    ensures { λ r. ⌜ now (sheet .exit) ≡ sheetBytesAfter (now (sheet .entry)) change ⌝ }
+{
+    layout::write_rebuilder(state, st);
+    sheet::apply_change(sheet, change);
+    (size as u64) * 16
+}
+
+// The rebuilder's call: the next question's length, 0 at the finish.
+#[no_mangle]
+pub extern "C" fn lo_rebuilder_call(
+    state: &mut [u8],
+    y: &[u8],
+    bits: usize,
+    string: &mut [u8],
+    sheet: &mut [u8],
+    msg: &[u8],
+    question: &mut [u8],
+) -> u64
+    ensures { λ r. ⌜ record { result = r; state = now (state .exit); string = now (string .exit); sheet = now (sheet .exit); question = now (question .exit) } ≡ rebuilderLeft (now (state .entry)) (now (string .entry)) (now (sheet .entry)) (now (question .entry)) (rebuilderOnBytes (now (state .entry)) (now (y .entry)) bits (now (msg .entry)) (roomsIn (now (string .entry)) (now (sheet .entry)) (now (question .entry)))) ⌝ }
+{
+    if !strings::keeps_string_rule(y, bits) {
+        return 2;
+    }
+    if state.len() != 564 {
+        return 3;
+    }
+    let st = layout::read_rebuilder(state);
+    let rows = sheet.len() / 12;
+    let out = ends::rebuilder_call(st, y, bits, msg, rows, string, question);
+    let answer = out.answer;
+    let next = out.state;
+    let change = out.sheet;
+    match answer {
+        RebuilderAnswer::Refused(e) => packing::pack_refusal(e),
+        RebuilderAnswer::Finished => keep(state, sheet, next, change, 0),
+        RebuilderAnswer::Asks(size) => keep(state, sheet, next, change, size),
+    }
+}

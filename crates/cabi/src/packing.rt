@@ -1,0 +1,52 @@
+// Results as one number: value * 16 + refusal.
+ghost use mathlib.Core.Path.{_≡_};
+ghost use mathlib.Core.List.{List};
+ghost use Prim.Native.Nat.{ℕ, _≤_};
+ghost use Rattle.codes.specs.Entries.{said, saidRepair, refusal};
+ghost use Rattle.ends.specs.AnchorSearch.{saidAnchor};
+ghost use Rattle.strings.specs.Refusals.{refusalNumber};
+ghost use Rattle.cabi.specs.Packing.{packed, numbered, outcomeNumber, placeNumber};
+use codes::NumberAnswer;
+use codes::RepairAnswer;
+use ends::AnchorAnswer;
+use strings::Refusal;
+
+// A refusal.
+pub fn pack_refusal(e: Refusal) -> u64
+    ensures { λ r. ⌜ r ≡ packed (refusal (refusalNumber e)) ⌝ }
+{
+    strings::refusal_number(e) as u64
+}
+
+// A number or a refusal.
+pub fn pack_number(a: NumberAnswer) -> u64
+    ensures { λ r. ⌜ r ≡ packed (said a) ⌝ }
+{
+    match a {
+        NumberAnswer::Value(v) => (v as u64) * 16,
+        NumberAnswer::Refused(e) => pack_refusal(e),
+    }
+}
+
+// Whether a repair was done, or a refusal.
+pub fn pack_repair(a: RepairAnswer) -> u64
+    ensures { λ r. ⌜ ((out : List ℕ) → r ≡ packed (numbered outcomeNumber (saidRepair a out .answer))) ⌝ }
+{
+    match a {
+        RepairAnswer::Done => 16,
+        RepairAnswer::Nothing => 0,
+        RepairAnswer::Refused(e) => pack_refusal(e),
+    }
+}
+
+// A place, none or a refusal.
+pub fn pack_place(a: AnchorAnswer) -> u64
+    requires { ⌜ packed (numbered placeNumber (saidAnchor a)) ≤ 1048592 ⌝ }
+    ensures { λ r. ⌜ r ≡ packed (numbered placeNumber (saidAnchor a)) ⌝ }
+{
+    match a {
+        AnchorAnswer::Placed(r) => ((r + 1) as u64) * 16,
+        AnchorAnswer::NoPlace => 0,
+        AnchorAnswer::Refused(e) => pack_refusal(e),
+    }
+}
