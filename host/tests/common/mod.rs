@@ -1,0 +1,486 @@
+//! What the tests share: random numbers, strings, and calls made on library and model alike.
+#![allow(dead_code)]
+
+use lunetteorris::model::{holder_sound, rebuilder_sound, Model};
+use lunetteorris::{
+    sheet_rows, unpack, BitString, Ends, Library, Refusal, HOLDER_BYTES, QUESTION_BYTES,
+    REBUILDER_BYTES, ROW_BYTES,
+};
+
+/// Marsaglia's 64-bit xorshift (13, 7, 17), high bits used.
+pub struct Random(u64);
+
+impl Random {
+    pub fn new(seed: u64) -> Random {
+        Random(seed.wrapping_mul(0x9e37_79b9_7f4a_7c15) | 1)
+    }
+
+    pub fn next(&mut self) -> u64 {
+        self.0 ^= self.0 << 13;
+        self.0 ^= self.0 >> 7;
+        self.0 ^= self.0 << 17;
+        self.0.wrapping_mul(0x2545_f491_4f6c_dd1d)
+    }
+
+    /// A number below the bound.
+    pub fn below(&mut self, bound: usize) -> usize {
+        (((self.next() >> 32) * bound as u64) >> 32) as usize
+    }
+
+    /// A number from first to last, both possible.
+    pub fn between(&mut self, first: usize, last: usize) -> usize {
+        first + self.below(last - first + 1)
+    }
+
+    pub fn bit(&mut self) -> bool {
+        self.next() >> 63 == 1
+    }
+
+    pub fn number(&mut self) -> u32 {
+        (self.next() >> 32) as u32
+    }
+
+    pub fn byte(&mut self) -> u8 {
+        (self.next() >> 56) as u8
+    }
+
+    pub fn pick<T: Copy>(&mut self, choices: &[T]) -> T {
+        choices[self.below(choices.len())]
+    }
+
+    pub fn bytes(&mut self, length: usize) -> Vec<u8> {
+        (0..length).map(|_| self.byte()).collect()
+    }
+}
+
+// Strings
+
+pub fn packed(bits: &[bool]) -> BitString {
+    BitString::from_bits(bits.iter().copied()).expect("at most 65,536 bits")
+}
+
+pub fn bits_of(text: &str) -> Vec<bool> {
+    text.bytes().map(|c| c == b'1').collect()
+}
+
+/// The bits of packed bytes.
+pub fn unpacked(bytes: &[u8], bits: usize) -> Vec<bool> {
+    (0..bits)
+        .map(|i| bytes[i / 8] >> (7 - i % 8) & 1 == 1)
+        .collect()
+}
+
+pub fn random_bits(random: &mut Random, bits: usize) -> Vec<bool> {
+    (0..bits).map(|_| random.bit()).collect()
+}
+
+#[derive(Clone, Copy, Debug, PartialEq)]
+pub enum Reference {
+    Random,
+    AllZero,
+    AllOne,
+    Periodic,
+    Sparse,
+}
+
+pub const REFERENCES: [Reference; 5] = [
+    Reference::Random,
+    Reference::AllZero,
+    Reference::AllOne,
+    Reference::Periodic,
+    Reference::Sparse,
+];
+
+pub fn reference(random: &mut Random, kind: Reference, bits: usize) -> Vec<bool> {
+    match kind {
+        Reference::Random => random_bits(random, bits),
+        Reference::AllZero => vec![false; bits],
+        Reference::AllOne => vec![true; bits],
+        Reference::Periodic => {
+            let length = random.between(1, 40);
+            let period = random_bits(random, length);
+            (0..bits).map(|i| period[i % period.len()]).collect()
+        }
+        Reference::Sparse => {
+            let every = random.between(20, 200);
+            (0..bits).map(|_| random.below(every) == 0).collect()
+        }
+    }
+}
+
+#[derive(Clone, Copy, Debug, PartialEq)]
+pub enum Change {
+    None,
+    OneDeletion,
+    OneInsertion,
+    FewEdits,
+    ManyEdits,
+    Burst,
+    Substitutions,
+    Mixed,
+    Unrelated,
+    UnrelatedLength,
+    Empty,
+}
+
+pub const CHANGES: [Change; 11] = [
+    Change::None,
+    Change::OneDeletion,
+    Change::OneInsertion,
+    Change::FewEdits,
+    Change::ManyEdits,
+    Change::Burst,
+    Change::Substitutions,
+    Change::Mixed,
+    Change::Unrelated,
+    Change::UnrelatedLength,
+    Change::Empty,
+];
+
+fn delete(random: &mut Random, y: &mut Vec<bool>) {
+    if !y.is_empty() {
+        y.remove(random.below(y.len()));
+    }
+}
+
+fn insert(random: &mut Random, y: &mut Vec<bool>) {
+    let at = random.below(y.len() + 1);
+    y.insert(at, random.bit());
+}
+
+fn substitute(random: &mut Random, y: &mut [bool]) {
+    if !y.is_empty() {
+        let at = random.below(y.len());
+        y[at] = !y[at];
+    }
+}
+
+fn insert_or_delete(random: &mut Random, y: &mut Vec<bool>, edits: usize) {
+    for _ in 0..edits {
+        if random.bit() {
+            delete(random, y);
+        } else {
+            insert(random, y);
+        }
+    }
+}
+
+/// A copy of `x`, at most `most` bits long.
+pub fn copy_of(random: &mut Random, x: &[bool], change: Change, most: usize) -> Vec<bool> {
+    let mut y = x.to_vec();
+    match change {
+        Change::None => {}
+        Change::OneDeletion => delete(random, &mut y),
+        Change::OneInsertion => insert(random, &mut y),
+        Change::FewEdits => {
+            let edits = random.between(2, 6);
+            insert_or_delete(random, &mut y, edits)
+        }
+        Change::ManyEdits => {
+            let edits = random.between(7, 7 + x.len() / 40);
+            insert_or_delete(random, &mut y, edits)
+        }
+        Change::Burst => {
+            let at = random.below(y.len() + 1);
+            let length = random.between(2, 60);
+            if random.bit() {
+                y.drain(at..(at + length).min(x.len()));
+            } else {
+                let burst = random_bits(random, length);
+                y.splice(at..at, burst);
+            }
+        }
+        Change::Substitutions => {
+            for _ in 0..random.between(1, 8) {
+                substitute(random, &mut y);
+            }
+        }
+        Change::Mixed => {
+            for _ in 0..random.between(1, 12) {
+                match random.below(3) {
+                    0 => delete(random, &mut y),
+                    1 => insert(random, &mut y),
+                    _ => substitute(random, &mut y),
+                }
+            }
+        }
+        Change::Unrelated => y = random_bits(random, x.len()),
+        Change::UnrelatedLength => {
+            let length = random.between(0, 2 * x.len() + 8);
+            y = random_bits(random, length);
+        }
+        Change::Empty => y.clear(),
+    }
+    y.truncate(most);
+    y
+}
+
+// Settings
+
+#[derive(Clone, Copy, Debug)]
+pub struct Numbers {
+    pub m: u32,
+    pub h: u32,
+    pub k: u32,
+    pub key: u32,
+    pub ceiling: u32,
+}
+
+pub const HOUSE: Numbers = Numbers {
+    m: 16,
+    h: 16,
+    k: 2,
+    key: 1,
+    ceiling: 4_096,
+};
+
+/// Settings within their limits, the limits themselves often.
+pub fn settings(random: &mut Random) -> Numbers {
+    let any_m = random.between(8, 64) as u32;
+    let any_h = random.between(8, 32) as u32;
+    let any_k = random.between(1, 8) as u32;
+    let any_key = random.number().max(1);
+    let small_ceiling = random.between(1, 60) as u32;
+    let middle_ceiling = random.between(61, 600) as u32;
+    Numbers {
+        m: random.pick(&[8, 8, 16, 64, any_m]),
+        h: random.pick(&[8, 8, 16, 32, any_h]),
+        k: random.pick(&[1, 2, 8, any_k]),
+        key: random.pick(&[1, u32::MAX, any_key, any_key]),
+        ceiling: random.pick(&[0, small_ceiling, middle_ceiling, 4_096, 16_384, 16_384]),
+    }
+}
+
+// Numbers in states
+
+pub fn field(state: &[u8], at: usize) -> usize {
+    u32::from_le_bytes(state[at..at + 4].try_into().unwrap()) as usize
+}
+
+pub fn set_field(state: &mut [u8], at: usize, value: u32) {
+    state[at..at + 4].copy_from_slice(&value.to_le_bytes());
+}
+
+// Offsets in a rebuilder's state
+pub const M: usize = 0;
+pub const H: usize = 4;
+pub const KEY: usize = 12;
+pub const CEILING: usize = 16;
+pub const PHASE: usize = 24;
+pub const N: usize = 28;
+pub const ANSWERED: usize = 32;
+pub const COUNTED: usize = 36;
+pub const ROWS: usize = 40;
+pub const STAGE: usize = 44;
+pub const WAITING: usize = 48;
+pub const PIECES: usize = 52;
+
+/// The leftmost waiting piece of a rebuilder's state: x, p, y, q.
+pub fn leftmost(state: &[u8]) -> Option<[usize; 4]> {
+    let last = field(state, WAITING).checked_sub(1)?;
+    Some([0, 4, 8, 12].map(|at| field(state, PIECES + 16 * last + at)))
+}
+
+/// The rows in use: start, length, how.
+pub fn rows(state: &[u8], sheet: &[u8]) -> Vec<[usize; 3]> {
+    sheet[..ROW_BYTES * field(state, ROWS)]
+        .chunks_exact(ROW_BYTES)
+        .map(|row| [0, 4, 8].map(|at| field(row, at)))
+        .collect()
+}
+
+// Numbers in messages
+
+pub fn encoded(mut value: u32) -> Vec<u8> {
+    let mut bytes = Vec::new();
+    while value >= 0x80 {
+        bytes.push(value as u8 | 0x80);
+        value >>= 7;
+    }
+    bytes.push(value as u8);
+    bytes
+}
+
+pub fn message(numbers: &[u32]) -> Vec<u8> {
+    numbers.iter().flat_map(|&number| encoded(number)).collect()
+}
+
+/// The numbers of a message that has nothing else.
+pub fn decoded(message: &[u8]) -> Vec<usize> {
+    let mut numbers = Vec::new();
+    let (mut value, mut place) = (0, 0);
+    for &byte in message {
+        value |= (byte as usize & 0x7f) << place;
+        place += 7;
+        if byte < 0x80 {
+            numbers.push(value);
+            (value, place) = (0, 0);
+        }
+    }
+    numbers
+}
+
+// Calls on both
+
+/// A rebuilder's state and buffers.
+#[derive(Clone, Debug, PartialEq)]
+pub struct RebuilderSide {
+    pub state: Vec<u8>,
+    pub string: Vec<u8>,
+    pub sheet: Vec<u8>,
+    pub question: Vec<u8>,
+}
+
+/// A holder's state and buffer.
+#[derive(Clone, Debug, PartialEq)]
+pub struct HolderSide {
+    pub state: Vec<u8>,
+    pub reply: Vec<u8>,
+}
+
+pub type Outcome = Result<usize, Refusal>;
+
+fn outcome(packed: u64) -> Outcome {
+    unpack(packed).map(|value| value as usize)
+}
+
+/// The holder's call on library and model: same result, same bytes; on a refusal nothing changes,
+/// on an answer only the state and the reply's own bytes.
+pub fn holder_call(side: &mut HolderSide, x: &[u8], bits: usize, message: &[u8]) -> Outcome {
+    let before = side.clone();
+    let mut model = side.clone();
+    let got = Library::holder_answer(&mut side.state, x, bits, message, &mut side.reply);
+    let want = Model::holder_answer(&mut model.state, x, bits, message, &mut model.reply);
+    let told = || format!("before {before:?}, {bits} bits, message {message:02x?}");
+    assert_eq!(got, want, "{}", told());
+    assert!(
+        *side == model,
+        "library {side:?}, model {model:?}, {}",
+        told()
+    );
+    let got = outcome(got);
+    match got {
+        Err(_) => assert!(*side == before, "changed {side:?}, {}", told()),
+        Ok(length) => {
+            assert_eq!(side.reply[length..], before.reply[length..], "{}", told());
+            assert!(holder_sound(&side.state), "{}", told());
+        }
+    }
+    got
+}
+
+/// The rebuilder's call on library and model: same result, same bytes; on a refusal nothing
+/// changes, on a taken answer nothing behind the string, the used rows and the question.
+pub fn rebuilder_call(side: &mut RebuilderSide, y: &[u8], bits: usize, message: &[u8]) -> Outcome {
+    let before = side.clone();
+    let mut model = side.clone();
+    let got = Library::rebuilder_call(
+        &mut side.state,
+        y,
+        bits,
+        &mut side.string,
+        &mut side.sheet,
+        message,
+        &mut side.question,
+    );
+    let want = Model::rebuilder_call(
+        &mut model.state,
+        y,
+        bits,
+        &mut model.string,
+        &mut model.sheet,
+        message,
+        &mut model.question,
+    );
+    let told = || format!("before {before:02x?}, {bits} bits, message {message:02x?}");
+    assert_eq!(got, want, "{}", told());
+    assert!(
+        *side == model,
+        "library {side:02x?}, model {model:02x?}, {}",
+        told()
+    );
+    let got = outcome(got);
+    match got {
+        Err(_) => assert!(*side == before, "changed {side:02x?}, {}", told()),
+        Ok(length) => {
+            let string = field(&side.state, N).div_ceil(8);
+            let used = field(&side.state, ROWS).max(field(&before.state, ROWS)) * ROW_BYTES;
+            assert_eq!(side.string[string..], before.string[string..], "{}", told());
+            assert_eq!(side.sheet[used..], before.sheet[used..], "{}", told());
+            assert_eq!(
+                side.question[length..],
+                before.question[length..],
+                "{}",
+                told()
+            );
+            assert!(rebuilder_sound(&side.state), "{}", told());
+        }
+    }
+    got
+}
+
+/// A fresh holder whose reply buffer is filled with random bytes.
+pub fn fresh_holder(random: &mut Random, reply_bytes: usize) -> HolderSide {
+    let mut states = [random.bytes(HOLDER_BYTES), random.bytes(HOLDER_BYTES)];
+    let [state, model] = &mut states;
+    assert_eq!(Library::holder_fresh(state), 0);
+    assert_eq!(Model::holder_fresh(model), 0);
+    assert_eq!(state, model);
+    assert!(holder_sound(state));
+    HolderSide {
+        state: state.clone(),
+        reply: random.bytes(reply_bytes),
+    }
+}
+
+/// The rebuilder's start on library and model; random bytes in all buffers, made for `n` bits
+/// with some bytes to spare. Gives the question's length as well.
+pub fn started(
+    random: &mut Random,
+    settings: Numbers,
+    y: &[u8],
+    bits: usize,
+    n: usize,
+) -> (RebuilderSide, usize) {
+    let Numbers {
+        m,
+        h,
+        k,
+        key,
+        ceiling,
+    } = settings;
+    let spare = [random.below(4), random.below(20), random.below(4)];
+    let mut side = RebuilderSide {
+        state: random.bytes(REBUILDER_BYTES),
+        string: random.bytes(n.div_ceil(8) + spare[0]),
+        sheet: random.bytes(ROW_BYTES * sheet_rows(n, m as usize) + spare[1]),
+        question: random.bytes(QUESTION_BYTES + spare[2]),
+    };
+    let mut model = side.clone();
+    let got = Library::rebuilder_start(
+        m,
+        h,
+        k,
+        key,
+        ceiling,
+        y,
+        bits,
+        &mut side.state,
+        &mut side.question,
+    );
+    let want = Model::rebuilder_start(
+        m,
+        h,
+        k,
+        key,
+        ceiling,
+        y,
+        bits,
+        &mut model.state,
+        &mut model.question,
+    );
+    assert_eq!(got, want);
+    assert_eq!(side, model);
+    assert!(rebuilder_sound(&side.state));
+    (side, outcome(got).expect("settings and Y are legal"))
+}

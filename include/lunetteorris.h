@@ -1,0 +1,169 @@
+/* Lunetteorris: synchronising a copy of a bit string with its reference.
+ *
+ * A holder has the reference X of n bits, a rebuilder the copy Y. The rebuilder asks questions,
+ * the holder answers, the host carries the messages. Link target/staticlib/libcabi.a, made by
+ * `rt staticlib cabi`.
+ *
+ * Strings. Each has 0 to LO_MAX_BITS bits in exactly ceil(bits/8) bytes, first bit in the most
+ * significant place, spare bits zero.
+ *
+ * Slices. Each is a pointer, then its length in bytes. A written slice overlaps no other. The
+ * library keeps no pointer after it returned and allocates nothing.
+ *
+ * Results. Each is value * 16 + refusal: LO_REFUSAL(r) is 0 where the call was not turned down,
+ * and LO_VALUE(r) is then the answer. Otherwise LO_REFUSAL(r) is 1 to 9, and the call changed
+ * nothing. Where several refusals apply, the order given with a function decides.
+ */
+#ifndef LUNETTEORRIS_H
+#define LUNETTEORRIS_H
+
+#include <stddef.h>
+#include <stdint.h>
+
+#ifdef __cplusplus
+extern "C" {
+#endif
+
+#define LO_VALUE(result) ((uint64_t)(result) >> 4)
+#define LO_REFUSAL(result) ((unsigned)((result) & 15))
+
+/* Refusals */
+#define LO_SETTING 1          /* a setting handed in is outside its limits */
+#define LO_BAD_STRING 2       /* a string breaks the string rule, or has another bit count than at
+                                 opening */
+#define LO_OUT_OF_TURN 3      /* finished; answers spent; an opening wanted, or not wanted; or the
+                                 state is unsound or of another length */
+#define LO_MESSAGE_ENDS 4     /* the message ends inside its kind, a field or its bits */
+#define LO_BAD_NUMBER 5       /* a number with a zero last byte after another byte, or a fifth byte
+                                 above 0x0f */
+#define LO_WRONG_KIND 6       /* the kind is unknown, or not the one that a rebuilder awaits */
+#define LO_BYTES_FOLLOW 7     /* bytes follow the last field or its bits */
+#define LO_OUT_OF_RANGE 8     /* a value is outside its range */
+#define LO_BUFFER_TOO_SHORT 9 /* a lent buffer or sheet is too short */
+
+/* Sizes */
+#define LO_MAX_BITS 65536
+#define LO_HOLDER_BYTES 20    /* a holder's state */
+#define LO_REBUILDER_BYTES 564 /* a rebuilder's state */
+#define LO_ROW_BYTES 12       /* a row of the sheet */
+#define LO_QUESTION_BYTES 8   /* each question buffer, at least */
+#define LO_REPLY_BYTES 8193   /* the longest reply; none on n bits is longer than 9 and
+                                 1 + ceil(n/8) */
+#define LO_STRING_BYTES(n) (((n) + 7) / 8)
+#define LO_SHEET_ROWS(n, m) (2 * ((n) / (m)) + 1)
+#define LO_SHEET_BYTES(n, m) (LO_ROW_BYTES * LO_SHEET_ROWS(n, m))
+
+/* The house settings */
+#define LO_HOUSE_M 16
+#define LO_HOUSE_H 16
+#define LO_HOUSE_K 2
+#define LO_HOUSE_KEY 1
+#define LO_HOUSE_CEILING 4096
+
+/* Layouts: 32-bit numbers, little-endian, at these offsets. Only the library writes a state.
+ *
+ * Holder: */
+#define LO_HOLDER_OPENED 0    /* 0 or 1 */
+#define LO_HOLDER_BITS 4      /* bits of X at opening */
+#define LO_HOLDER_H 8
+#define LO_HOLDER_KEY 12
+#define LO_HOLDER_ANSWERS 16  /* answers given, the opening's among them */
+
+/* Rebuilder: */
+#define LO_REBUILDER_M 0
+#define LO_REBUILDER_H 4
+#define LO_REBUILDER_K 8
+#define LO_REBUILDER_KEY 12
+#define LO_REBUILDER_CEILING 16
+#define LO_REBUILDER_Y_BITS 20
+#define LO_REBUILDER_PHASE 24    /* 0 opening awaited, 1 pieces or finished, 2 whole string asked */
+#define LO_REBUILDER_N 28        /* bits of X, 0 before the opening's answer */
+#define LO_REBUILDER_ANSWERED 32 /* questions answered, the opening among them */
+#define LO_REBUILDER_COUNTED 36  /* bytes of the answers, the opening's not counted */
+#define LO_REBUILDER_ROWS 40     /* rows in use */
+#define LO_REBUILDER_STAGE 44    /* leftmost piece: 0 hash or syndrome asked, 1 to 3 an anchor,
+                                    4 all its bits */
+#define LO_REBUILDER_WAITING 48  /* waiting pieces */
+#define LO_REBUILDER_PIECES 52   /* 32 pieces of x, p, y, q, the leftmost waiting one last; unused
+                                    ones zero */
+
+/* Row: */
+#define LO_ROW_START 0
+#define LO_ROW_LENGTH 4
+#define LO_ROW_HOW 8             /* one of: */
+#define LO_HOW_HASH 1
+#define LO_HOW_PUT_IN 2
+#define LO_HOW_TAKE_OUT 3
+#define LO_HOW_ANCHOR 4
+#define LO_HOW_BITS 5
+
+/* The syndrome of the string s of `bits` bits: the sum of i * b_i, i from 1, modulo bits + 1.
+ * Refusal 2. */
+uint64_t lo_syndrome(const uint8_t *s, size_t s_len, size_t bits);
+
+/* The hash of s, h bits wide (8 to 32), under a key of 1 or more.
+ * Refusals 1 (h, key), 2. */
+uint64_t lo_hash(const uint8_t *s, size_t s_len, size_t bits, uint32_t h, uint32_t key);
+
+/* The n-bit string with syndrome a that comes from s by putting one bit in (bits is n - 1) or
+ * taking one out (bits is n + 1). Value 1: the first ceil(n/8) bytes of out are that string, later
+ * bytes are as they were. Value 0: there is none, and nothing is written; never for a put-in.
+ * Refusals 2; 8 (bits and n not one apart, n above LO_MAX_BITS, a above n); 9 (out shorter than
+ * ceil(n/8)). */
+uint64_t lo_repair(const uint8_t *s, size_t s_len, size_t bits, size_t n, size_t a,
+                   uint8_t *out, size_t out_len);
+
+/* Where the anchor a of m bits, from offset s of a piece of p bits, is placed in the piece's copy,
+ * the q bits of y from start on. Value r + 1 for the place r, counted from start; 0 for no place.
+ * Refusals 1 (m not 8 to 64, k not 1 to 8); 2 (y of `bits` bits or a of m bits breaks the string
+ * rule); 8 (start + q above bits, p above LO_MAX_BITS, s + m above p). */
+uint64_t lo_anchor(const uint8_t *y, size_t y_len, size_t bits, size_t start, size_t q, size_t p,
+                   size_t s, uint32_t m, uint32_t k, const uint8_t *a, size_t a_len);
+
+/* Writes the state of a holder that has answered nothing to the first LO_HOLDER_BYTES bytes of
+ * state. Value 0. Refusal 9 (state is shorter). */
+uint64_t lo_holder_fresh(uint8_t *state, size_t state_len);
+
+/* The holder's call: answers the question msg on X. Value: the reply's length; the reply is in the
+ * first bytes of reply, later bytes are as they were, and state (of exactly LO_HOLDER_BYTES bytes)
+ * holds the next state.
+ * Refusals 2; 3 (state unsound or of another length, answers spent); then as the message is read
+ * from left to right 4, 5, 6, or 3 for a known kind out of turn; 7; 8; 9 (reply shorter than the
+ * reply). */
+uint64_t lo_holder_answer(uint8_t *state, size_t state_len,
+                          const uint8_t *x, size_t x_len, size_t bits,
+                          const uint8_t *msg, size_t msg_len,
+                          uint8_t *reply, size_t reply_len);
+
+/* The rebuilder's start under the settings m, h, k, key, ceiling. Value: the first question's
+ * length; the question is in the first bytes of question, and the first LO_REBUILDER_BYTES bytes
+ * of state hold the state.
+ * Refusals 1 (m not 8 to 64, h not 8 to 32, k not 1 to 8, key 0, ceiling above 16,384); 2; 9
+ * (question shorter than LO_QUESTION_BYTES, state shorter than LO_REBUILDER_BYTES). */
+uint64_t lo_rebuilder_start(uint32_t m, uint32_t h, uint32_t k, uint32_t key, uint32_t ceiling,
+                            const uint8_t *y, size_t y_len, size_t bits,
+                            uint8_t *state, size_t state_len,
+                            uint8_t *question, size_t question_len);
+
+/* The rebuilder's call: takes the answer msg to the question that waits. Value: the next
+ * question's length, or 0 when finished: the first ceil(n/8) bytes of string are then the rebuilt
+ * string (X, but for pieces whose hash agreed on other bits), and the rows in use cover each bit of
+ * X once. Lend the same y, string and sheet, unaltered, in each call
+ * from the opening's answer on. The opening's answer zeroes the first ceil(n/8) bytes of string.
+ * Unused rows, and bytes behind the string and the question, are as they were. state is of exactly
+ * LO_REBUILDER_BYTES bytes. sheet_len counts bytes; a rest below LO_ROW_BYTES is no row.
+ * Refusals 2; 3 (state unsound or of another length, finished); then as the message is read from
+ * left to right 4, 5, 6; 7; 8; 9 (question shorter than LO_QUESTION_BYTES, string shorter than
+ * LO_STRING_BYTES(n), sheet of fewer than LO_SHEET_ROWS(n, m) rows). */
+uint64_t lo_rebuilder_call(uint8_t *state, size_t state_len,
+                           const uint8_t *y, size_t y_len, size_t bits,
+                           uint8_t *string, size_t string_len,
+                           uint8_t *sheet, size_t sheet_len,
+                           const uint8_t *msg, size_t msg_len,
+                           uint8_t *question, size_t question_len);
+
+#ifdef __cplusplus
+}
+#endif
+
+#endif
