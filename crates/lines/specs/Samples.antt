@@ -1,0 +1,103 @@
+-- 01's example of a demonstration run, and lines at the edges of the forms, on the definitions.
+use mathlib.Core.Path.{_≡_, refl}
+use mathlib.Core.Bool.{true, false}
+use mathlib.Core.List.{List, [], _∷_}
+use Prim.Native.Nat.{ℕ}
+use Rattle.strings.specs.Bits.{bitAt, flipped, setBit, writeBits, pack}
+use Rattle.lines.specs.declared.FieldFound.the-variants.{At, Missing}
+use Rattle.lines.specs.declared.Decimal.the-variants.{Value, NotDecimal}
+use Rattle.lines.specs.declared.SettingsRead.the-variants.{Parsed, Malformed}
+use Rattle.lines.specs.declared.StringRead.the-variants.{Bits, NotBits}
+use Rattle.lines.specs.Fields.{beforeFirst, fieldEnd, fieldFrom, field}
+use Rattle.lines.specs.SettingsLine.{isDigit, allDigits, valueFrom, decimalOf, groupOf, fiveGroups, settingsOf, settingsIn}
+use Rattle.lines.specs.StringLine.{isBit, allBits, bitsOf, leaves, stringInto, stringIn}
+use Rattle.lines.specs.Printing.{hexDigit, hexOf, digitsIn, decimal, bitBytes, messageLine, rowLine, lastLine, refusalLine}
+
+-- the three lines `8 8 1 1 100`, `1011`, `101`
+abbrev input : List ℕ
+input =
+    56 ∷ 32 ∷ 56 ∷ 32 ∷ 49 ∷ 32 ∷ 49 ∷ 32 ∷ 49 ∷ 48 ∷ 48 ∷ 10
+    ∷ 49 ∷ 48 ∷ 49 ∷ 49 ∷ 10
+    ∷ 49 ∷ 48 ∷ 49 ∷ 10 ∷ []
+
+-- a lent buffer of two bytes
+abbrev buffer : List ℕ
+buffer = 7 ∷ 7 ∷ []
+
+pub record ExampleRead : Type 0 where
+  pub settings : settingsIn input ≡ Parsed (record { m = 8; h = 8; k = 1; key = 1; ceiling = 100 })
+  pub x : stringIn input 1 buffer ≡ leaves (Bits 4) (0xb0 ∷ 7 ∷ [])
+  pub y : stringIn input 2 buffer ≡ leaves (Bits 3) (0xa0 ∷ 7 ∷ [])
+
+pub example-read : ExampleRead
+unfolding field fieldFrom fieldEnd beforeFirst settingsIn settingsOf fiveGroups groupOf decimalOf valueFrom allDigits isDigit stringIn stringInto allBits isBit bitsOf pack writeBits setBit flipped bitAt
+example-read = record { settings = refl; x = refl; y = refl }
+
+-- the lines that 01 prints for it, each followed by its bytes
+pub record ExamplePrinted : Type 0 where
+  -- Q 00010801
+  pub opening : messageLine 81 (0 ∷ 1 ∷ 8 ∷ 1 ∷ []) ≡ 81 ∷ 32 ∷ 48 ∷ 48 ∷ 48 ∷ 49 ∷ 48 ∷ 56 ∷ 48 ∷ 49 ∷ 10 ∷ []
+  -- A 0004
+  pub size : messageLine 65 (0 ∷ 4 ∷ []) ≡ 65 ∷ 32 ∷ 48 ∷ 48 ∷ 48 ∷ 52 ∷ 10 ∷ []
+  -- Q 020004
+  pub question : messageLine 81 (2 ∷ 0 ∷ 4 ∷ []) ≡ 81 ∷ 32 ∷ 48 ∷ 50 ∷ 48 ∷ 48 ∷ 48 ∷ 52 ∷ 10 ∷ []
+  -- A 0203ab01
+  pub answer : messageLine 65 (2 ∷ 3 ∷ 0xab ∷ 1 ∷ []) ≡ 65 ∷ 32 ∷ 48 ∷ 50 ∷ 48 ∷ 51 ∷ 97 ∷ 98 ∷ 48 ∷ 49 ∷ 10 ∷ []
+  -- P 0 4 2
+  pub row : rowLine 0 4 2 ≡ 80 ∷ 32 ∷ 48 ∷ 32 ∷ 52 ∷ 32 ∷ 50 ∷ 10 ∷ []
+  -- X 1011 1 4
+  pub last : lastLine (true ∷ false ∷ true ∷ true ∷ []) 1 4 ≡ 88 ∷ 32 ∷ 49 ∷ 48 ∷ 49 ∷ 49 ∷ 32 ∷ 49 ∷ 32 ∷ 52 ∷ 10 ∷ []
+
+pub example-printed : ExamplePrinted
+unfolding messageLine rowLine lastLine hexOf hexDigit decimal digitsIn bitBytes
+example-printed = record { opening = refl; size = refl; question = refl; answer = refl; row = refl; last = refl }
+
+pub record Edges : Type 0 where
+  -- `1`, newline, `0`: line 1 ends at the end of input, and there is no line 2
+  pub unended : field 10 1 (49 ∷ 10 ∷ 48 ∷ []) ≡ At 2 3
+  pub missing : field 10 2 (49 ∷ 10 ∷ 48 ∷ []) ≡ Missing
+  -- with a newline behind line 1, line 2 is there and empty: the empty string
+  pub empty : stringIn (49 ∷ 10 ∷ 48 ∷ 10 ∷ []) 2 buffer ≡ leaves (Bits 0) buffer
+  -- a carriage return is no bit
+  pub carriage-return : stringInto (49 ∷ 13 ∷ []) buffer ≡ leaves NotBits buffer
+  -- `0012` is 12; no digit at all, and a sign, make no number
+  pub leading-zeros : decimalOf (48 ∷ 48 ∷ 49 ∷ 50 ∷ []) ≡ Value 12
+  pub no-digit : decimalOf [] ≡ NotDecimal
+  pub sign : decimalOf (43 ∷ 49 ∷ []) ≡ NotDecimal
+  -- 4294967295, 4294967296
+  pub largest : decimalOf (52 ∷ 50 ∷ 57 ∷ 52 ∷ 57 ∷ 54 ∷ 55 ∷ 50 ∷ 57 ∷ 53 ∷ []) ≡ Value 4294967295
+  pub too-large : decimalOf (52 ∷ 50 ∷ 57 ∷ 52 ∷ 57 ∷ 54 ∷ 55 ∷ 50 ∷ 57 ∷ 54 ∷ []) ≡ NotDecimal
+  -- `1 2 3 4 5`; two blanks behind the 1; a blank behind the 5; a blank before the 1; four numbers
+  pub five : settingsOf (49 ∷ 32 ∷ 50 ∷ 32 ∷ 51 ∷ 32 ∷ 52 ∷ 32 ∷ 53 ∷ []) ≡ Parsed (record { m = 1; h = 2; k = 3; key = 4; ceiling = 5 })
+  pub two-blanks : settingsOf (49 ∷ 32 ∷ 32 ∷ 50 ∷ 32 ∷ 51 ∷ 32 ∷ 52 ∷ 32 ∷ 53 ∷ []) ≡ Malformed
+  pub blank-behind : settingsOf (49 ∷ 32 ∷ 50 ∷ 32 ∷ 51 ∷ 32 ∷ 52 ∷ 32 ∷ 53 ∷ 32 ∷ []) ≡ Malformed
+  pub blank-before : settingsOf (32 ∷ 49 ∷ 32 ∷ 50 ∷ 32 ∷ 51 ∷ 32 ∷ 52 ∷ 32 ∷ 53 ∷ []) ≡ Malformed
+  pub four : settingsOf (49 ∷ 32 ∷ 50 ∷ 32 ∷ 51 ∷ 32 ∷ 52 ∷ []) ≡ Malformed
+  -- the empty string is printed as nothing between two blanks
+  pub empty-string : lastLine [] 0 0 ≡ 88 ∷ 32 ∷ 32 ∷ 48 ∷ 32 ∷ 48 ∷ 10 ∷ []
+  pub ten-digits : decimal 4294967295 ≡ 52 ∷ 50 ∷ 57 ∷ 52 ∷ 57 ∷ 54 ∷ 55 ∷ 50 ∷ 57 ∷ 53 ∷ []
+  -- R 1
+  pub refusal : refusalLine 1 ≡ 82 ∷ 32 ∷ 49 ∷ 10 ∷ []
+
+pub edges : Edges
+unfolding field fieldFrom fieldEnd beforeFirst settingsOf fiveGroups groupOf decimalOf valueFrom allDigits isDigit stringIn stringInto allBits isBit bitsOf pack writeBits lastLine refusalLine decimal digitsIn bitBytes
+edges =
+    record {
+      unended = refl;
+      missing = refl;
+      empty = refl;
+      carriage-return = refl;
+      leading-zeros = refl;
+      no-digit = refl;
+      sign = refl;
+      largest = refl;
+      too-large = refl;
+      five = refl;
+      two-blanks = refl;
+      blank-behind = refl;
+      blank-before = refl;
+      four = refl;
+      empty-string = refl;
+      ten-digits = refl;
+      refusal = refl;
+    }

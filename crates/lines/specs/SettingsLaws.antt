@@ -1,0 +1,130 @@
+-- Laws of decimal numbers and of the settings line, as the code meets them.
+use mathlib.Core.Path.{_≡_, refl, _∙_}
+use mathlib.Core.Bool.{Bool, true, false, cond, _&&_}
+use mathlib.Core.List.{List, [], _∷_}
+use Prim.Native.Nat.{ℕ, _+_, _-_, _*_, _≤_, _<_}
+use native.Mathlib.Numerals.{add-one}
+use native.Mathlib.Omega.{arith}
+use lib.ListN.{length, getD, drop, drop-of-length-le}
+use lib.Seq.{drop-cons}
+use lib.Dec.{leb, ltb}
+use borrow.Author.Tests.{lt-ltb, le-ltb, lt-leb, le-leb}
+use Rattle.protocol.specs.declared.Settings.{Settings}
+use Rattle.lines.specs.declared.FieldFound.{FieldFound}
+use Rattle.lines.specs.declared.FieldFound.the-variants.{At, Missing}
+use Rattle.lines.specs.declared.Decimal.{Decimal}
+use Rattle.lines.specs.declared.Decimal.the-variants.{Value, NotDecimal}
+use Rattle.lines.specs.declared.SettingsRead.the-variants.{Parsed, Malformed}
+use Rattle.lines.specs.Fields.{field, bytesBetween}
+use Rattle.lines.specs.SettingsLine.{isDigit, allDigits, valueFrom, decimalOf, groupOf, fiveGroups, settingsOf, settingsIn}
+
+pub digit-low : (x : ℕ) → x < 48 → false ≡ isDigit x
+unfolding isDigit
+digit-low x h = rw (lt-leb 48 x h) refl
+
+pub digit-high : (x : ℕ) → 48 ≤ x → leb x 57 ≡ isDigit x
+unfolding isDigit
+digit-high x h = rw (le-leb 48 x h) refl
+
+value-grows : (v : ℕ) (l : List ℕ) → v ≤ valueFrom v l
+unfolding valueFrom
+value-grows v [] = omega arith
+value-grows v (x ∷ l) = let h = value-grows (v * 10 + (x - 48)) l in omega arith
+
+-- ---- a decimal number read byte by byte: what the digits l make of it behind digits of the value v
+unfoldable pub decimalRest : ℕ → List ℕ → Decimal
+decimalRest v l = cond (allDigits l && ltb (valueFrom v l) 4294967296) (Value (valueFrom v l)) NotDecimal
+
+pub decimal-none : (s : List ℕ) → length s ≡ 0 → NotDecimal ≡ decimalOf s
+unfolding decimalOf
+decimal-none s h = rw h refl
+
+pub decimal-first : (s : List ℕ) → (length s ≡ 0 → ⊥) → decimalRest 0 s ≡ decimalOf s
+unfolding decimalOf decimalRest
+decimal-first s h = rw (lt-ltb 0 (length s) (omega arith)) refl
+
+module _ (s : List ℕ) (v i : ℕ) (r : Decimal) (so : decimalRest v (drop i s) ≡ r) where
+  module _ (h : i < length s) {t : Bool} (d : t ≡ isDigit (getD s i 0)) where
+    pub decimal-other : t ≡ false → NotDecimal ≡ r
+    unfolding decimalRest allDigits
+    decimal-other e = (rw (drop-cons s i 0 h, ← d, e) refl) ∙ so
+
+    pub decimal-next : t ≡ true → (w : ℕ) → w ≡ getD s i 0 - 48 → decimalRest (v * 10 + w) (drop (i + 1) s) ≡ r
+    unfolding decimalRest allDigits valueFrom
+    decimal-next e w p = (rw (drop-cons s i 0 h, ← d, e, p, add-one) refl) ∙ so
+
+  pub decimal-large : 4294967296 ≤ v → NotDecimal ≡ r
+  unfolding decimalRest
+  decimal-large h =
+      let g = value-grows v (drop i s) in
+      (rw (le-ltb (valueFrom v (drop i s)) 4294967296 (omega arith)) (go (allDigits (drop i s)))) ∙ so
+    where
+      go : (t : Bool) → NotDecimal ≡ cond (t && false) (Value (valueFrom v (drop i s))) NotDecimal
+      go true = refl
+      go false = refl
+
+  pub decimal-last : length s ≤ i → v < 4294967296 → Value v ≡ r
+  unfolding decimalRest allDigits valueFrom
+  decimal-last h k = (rw (drop-of-length-le s {i = i} h, lt-ltb v 4294967296 k) refl) ∙ so
+
+-- ---- groups and lines: r is the field found
+module _ (line : List ℕ) (i : ℕ) {r : FieldFound} (p : r ≡ field 32 i line) where
+  pub group-missing : r ≡ Missing → NotDecimal ≡ groupOf line i
+  unfolding groupOf
+  group-missing q = rw (← p, q) refl
+
+  pub group-found : (a b : ℕ) → r ≡ At a b → decimalOf (bytesBetween a b line) ≡ groupOf line i
+  unfolding groupOf
+  group-found a b q = rw (← p, q) refl
+
+pub settings-long : (line : List ℕ) → 65536 < length line → Malformed ≡ settingsOf line
+unfolding settingsOf
+settings-long line h = rw (lt-leb (length line) 65536 h) refl
+
+module _ (line : List ℕ) (few : length line ≤ 65536) {r : FieldFound} (p : r ≡ field 32 5 line) where
+  pub settings-more : (a b : ℕ) → r ≡ At a b → Malformed ≡ settingsOf line
+  unfolding settingsOf
+  settings-more a b q = rw (le-leb (length line) 65536 few, ← p, q) refl
+
+  pub settings-five : r ≡ Missing → fiveGroups line ≡ settingsOf line
+  unfolding settingsOf
+  settings-five q = rw (le-leb (length line) 65536 few, ← p, q) refl
+
+module _ (input : List ℕ) {r : FieldFound} (p : r ≡ field 10 0 input) where
+  pub settings-missing : r ≡ Missing → Malformed ≡ settingsIn input
+  unfolding settingsIn
+  settings-missing q = rw (← p, q) refl
+
+  pub settings-found : (a b : ℕ) → r ≡ At a b → settingsOf (bytesBetween a b input) ≡ settingsIn input
+  unfolding settingsIn
+  settings-found a b q = rw (← p, q) refl
+
+-- ---- the five groups: the first that is no number decides
+module _ (line : List ℕ) where
+  pub five-none : groupOf line 0 ≡ NotDecimal → Malformed ≡ fiveGroups line
+  unfolding fiveGroups
+  five-none q = rw q refl
+
+  module _ (m : ℕ) (e₀ : groupOf line 0 ≡ Value m) where
+    pub five-one : groupOf line 1 ≡ NotDecimal → Malformed ≡ fiveGroups line
+    unfolding fiveGroups
+    five-one q = rw (e₀, q) refl
+
+    module _ (h : ℕ) (e₁ : groupOf line 1 ≡ Value h) where
+      pub five-two : groupOf line 2 ≡ NotDecimal → Malformed ≡ fiveGroups line
+      unfolding fiveGroups
+      five-two q = rw (e₀, e₁, q) refl
+
+      module _ (k : ℕ) (e₂ : groupOf line 2 ≡ Value k) where
+        pub five-three : groupOf line 3 ≡ NotDecimal → Malformed ≡ fiveGroups line
+        unfolding fiveGroups
+        five-three q = rw (e₀, e₁, e₂, q) refl
+
+        module _ (key : ℕ) (e₃ : groupOf line 3 ≡ Value key) where
+          pub five-four : groupOf line 4 ≡ NotDecimal → Malformed ≡ fiveGroups line
+          unfolding fiveGroups
+          five-four q = rw (e₀, e₁, e₂, e₃, q) refl
+
+          pub five-all : (ceiling : ℕ) → groupOf line 4 ≡ Value ceiling → (S : Settings) → S ≡ record { m = m; h = h; k = k; key = key; ceiling = ceiling } → Parsed S ≡ fiveGroups line
+          unfolding fiveGroups
+          five-all ceiling q S f = rw (e₀, e₁, e₂, e₃, q, f) refl
