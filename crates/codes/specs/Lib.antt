@@ -1,4 +1,4 @@
--- What a reader must believe of codes and hash: Syndrome, Repair, Hash, Entries. Place, Edits and HashForms are the code's way to them. The rest is laws and samples.
+-- What a reader must believe of codes and hash: Syndrome, Repair, Hash, Entries. Place, Edits and HashForms are the code's way to them. The rest is laws.
 pub mod Syndrome
 pub mod Repair
 pub mod Hash
@@ -12,5 +12,4 @@ pub mod PlaceLaws
 pub mod EditLaws
 pub mod HashLaws
 pub mod EntryLaws
-pub mod Samples
 pub mod Collision
