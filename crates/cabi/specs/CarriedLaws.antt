@@ -20,9 +20,9 @@ use Rattle.protocol.specs.declared.Piece.{Piece}
 use Rattle.protocol.specs.declared.Rebuilder.{Rebuilder}
 use Rattle.protocol.specs.Limits.{withinLimits}
 use Rattle.protocol.specs.States.{noPiece, top, held}
-use Rattle.protocol.specs.Soundness.{sound, openingSound, wholeSound}
+use Rattle.protocol.specs.Soundness.{sound, openingSound, wholeSound, phaseSound}
 use Rattle.protocol.specs.SoundLaws.{both, Ordered, stage-most}
-use Rattle.protocol.specs.SoundSteps.{topFits, Framed, phaseSound, sound-is, PiecesIs, pieces-is, WholeIs, whole-is, fresh-sound}
+use Rattle.protocol.specs.SoundSteps.{top-most, Framed, sound-is, PiecesIs, pieces-is, WholeIs, whole-is, fresh-sound}
 use Rattle.protocol.specs.RebuilderCall.{Started, starts, unlessStarted, rebuilderStart, freshRebuilder, Taken, takes, unlessTaken, Step, Rooms, rebuilderCall}
 use Rattle.protocol.specs.Asking.{call-sound}
 use Rattle.protocol.specs.Delivery.{started-is}
@@ -65,14 +65,6 @@ record Bounded (st : Rebuilder) : Type 0 where
   stage-most′ : st .stage ≤ 4
   order : Ordered (st .n) (st .ybits) 0 0 (held (st .waiting) (st .pieces))
 
-stack-stage : (st : Rebuilder) → topFits st ≡ true → st .stage ≤ 4
-unfolding topFits
-stack-stage st e = go (ℕ-discrete (st .waiting) 0)
-  where
-    go : Dec (st .waiting ≡ 0) → st .stage ≤ 4
-    go (yes z) = let f = eqb-true (st .stage) 0 (rw (eq-eqb (st .waiting) 0 z) at e) in omega arith
-    go (no z) = stage-most (st .settings) (top st .p) (top st .q) (st .stage) (rw (ne-eqb (st .waiting) 0 z) at e)
-
 opening-bounded : (st : Rebuilder) → st .phase ≡ 0 → openingSound st ≡ true → Bounded st
 unfolding openingSound
 opening-bounded st p e =
@@ -99,7 +91,7 @@ pieces-bounded st f p k =
     let l = f .limits .ceiling-most in
     let n = f .size in
     let q = div-le-self (st .n) (st .settings .m) in
-    let s = stack-stage st (k .stack .fits) in
+    let s = top-most st (k .stack .fits) in
     let r = k .stack .rows in
     let a = k .asks in
     let c = by-test (λ (v : ℕ). st .counted ≤ v → st .counted ≤ 1000000) (eqb (st .waiting) 0) (λ e h. omega arith) (λ e h. omega arith) (k .counted) in
@@ -110,7 +102,7 @@ whole-bounded st f p k =
     let l = f .limits .ceiling-most in
     let n = f .size in
     let q = div-le-self (st .n) (st .settings .m) in
-    let s = stack-stage st (k .stack .fits) in
+    let s = top-most st (k .stack .fits) in
     let r = k .stack .rows in
     let a = k .asks in
     let c = k .counted in

@@ -18,9 +18,9 @@ use Rattle.codes.specs.declared.entries.RepairAnswer.{RepairAnswer}
 use Rattle.codes.specs.declared.entries.RepairAnswer.the-variants.{Done, Nothing, Refused}
 use Rattle.protocol.specs.Anchors.{place, Best}
 use Rattle.protocol.specs.AnchorLaws.{place-best}
-use Rattle.ends.specs.AnchorSearch.{anchorSearch, anchorSettings, anchorRange, saidAnchor}
-use Rattle.ends.specs.declared.anchor.AnchorAnswer.{AnchorAnswer}
-use Rattle.ends.specs.declared.anchor.AnchorAnswer.the-variants.{Placed}
+use Rattle.anchors.specs.AnchorSearch.{anchorSearch, anchorSettings, anchorRange, saidAnchor}
+use Rattle.anchors.specs.declared.AnchorAnswer.{AnchorAnswer}
+use Rattle.anchors.specs.declared.AnchorAnswer.the-variants.{Placed}
 use Rattle.cabi.specs.Packing.{packed, numbered, placeNumber}
 
 -- ---- the host's side: the low four bits are the refusal, the rest is the value

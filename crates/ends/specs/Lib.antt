@@ -1,6 +1,4 @@
 -- What the functions of the two ends require, and laws for their proofs.
-pub mod AnchorSearch
-pub mod AnchorSearchLaws
 pub mod StateCode
 pub mod SoundCode
 pub mod SoundLaws

@@ -40,8 +40,8 @@ use Rattle.protocol.specs.Shape.{full, Proper, Inside, sizes, size-bits}
 use Rattle.protocol.specs.Runs.{sizeOf}
 use Rattle.protocol.specs.SoundLaws.{limits-is}
 use Rattle.protocol.specs.States.{top, planned, askFor}
-use Rattle.protocol.specs.Soundness.{sound, stageFits, openingSound}
-use Rattle.protocol.specs.SoundSteps.{Framed, sound-is, phaseSound, phase-whole, OpeningIs, opening-is, WholeIs, whole-is, PiecesIs, fresh-sound, opening-sound, whole-sound, top-is, ask-inside, PhaseOf, isOpening, isPieces, isWhole, phase-of}
+use Rattle.protocol.specs.Soundness.{sound, stageFits, openingSound, phaseSound}
+use Rattle.protocol.specs.SoundSteps.{Framed, sound-is, phase-whole, OpeningIs, opening-is, WholeIs, whole-is, PiecesIs, fresh-sound, opening-sound, whole-sound, top-is, ask-inside, PhaseOf, isOpening, isPieces, isWhole, phase-of}
 use Rattle.protocol.specs.Steps.{step-opening, step-whole}
 use Rattle.protocol.specs.Asking.{proper-of}
 use Rattle.protocol.specs.RebuilderCall.{Taken, refuses, openingStep, wholeStep, stepOf, questionLength, Rooms, roomFor, hears, awaits, rebuilderCall, Started, starts, startDeclines, rebuilderStart, freshRebuilder}

@@ -44,21 +44,21 @@ use Rattle.protocol.specs.Right.{Fit}
 use Rattle.protocol.specs.States.{top, popped, restaged, retried, splitAt, planned, askFor, anchorOffset}
 use Rattle.protocol.specs.Soundness.{sound, stageFits}
 use Rattle.protocol.specs.SoundLaws.{fits-stage}
-use Rattle.protocol.specs.SoundSteps.{stage-big, Framed, sound-is, PiecesIs, pieces-is, phase-pieces, TopIs, top-is, ask-inside, tallied-sound, effect-tally, PhaseOf, isOpening, isPieces, isWhole, phase-of}
+use Rattle.protocol.specs.SoundSteps.{stage-big, Framed, sound-is, PiecesIs, pieces-is, phase-pieces, TopIs, top-is, ask-inside, tallied-sound, effect-tally, PhaseOf, isOpening, isPieces, isWhole, phase-of, offset-within}
 use Rattle.protocol.specs.Delivery.{NotOpen, inside-range}
 use Rattle.protocol.specs.Anchors.{place, Best, fits as anchorFits, away}
 use Rattle.protocol.specs.AnchorLaws.{place-best}
 use Rattle.protocol.specs.Steps.{step-pieces}
 use Rattle.protocol.specs.RebuilderCall.{tallied, Step, effectStep, stepOf, stringAfter, writtenQuestion, numberedStage}
-use Rattle.ends.specs.declared.anchor.Place.{Place}
-use Rattle.ends.specs.declared.anchor.Place.the-variants.{At, Nowhere}
-use Rattle.ends.specs.AnchorSearch.{Ready, placeIn}
+use Rattle.anchors.specs.declared.Place.{Place}
+use Rattle.anchors.specs.declared.Place.the-variants.{At, Nowhere}
+use Rattle.anchors.specs.AnchorSearch.{Ready, placeIn}
 use Rattle.ends.specs.declared.state.Plan.{Plan}
 use Rattle.ends.specs.declared.state.Plan.the-variants.{Ask, Finished}
 use Rattle.ends.specs.declared.rebuilder.RebuilderAnswer.{RebuilderAnswer}
 use Rattle.ends.specs.declared.rebuilder.RebuilderAnswer.the-variants.{Asks}
 use Rattle.ends.specs.declared.rebuilder.RebuilderOut.{RebuilderOut}
-use Rattle.ends.specs.StateCode.{Usable, Holds, Stages, Retries, Splits, Counts, Offsets, planOf, offset-in}
+use Rattle.ends.specs.StateCode.{Usable, Holds, Stages, Retries, Splits, Counts, Offsets, planOf}
 use Rattle.ends.specs.SoundLaws.{sound-counts}
 use Rattle.ends.specs.RebuilderCode.{front, nextAnswer, OutIs, Acting, Splitting, RebuilderSaid, saidRebuilder, leavesRebuilder, stepTaken, trialStep, OneApart, oneLess, oneMore, repairHow}
 
@@ -453,7 +453,7 @@ module _ (st : Rebuilder) (size room : ℕ) (k : Acting st size room) (low : 0 <
     offset-is = so ∙ ap (λ (z : Piece). anchorOffset (st .settings .m) (z .p) (st .stage)) tp
 
     offset-room : s + st .settings .m ≤ top st .p
-    offset-room = let o = offset-in (st .settings .m) (top st .p) (st .stage) long in let e = offset-is in omega arith
+    offset-room = let o = offset-within (st .settings .m) (top st .p) (st .stage) long in let e = offset-is in omega arith
 
     pub search-ready : (y bits : List ℕ) → st .ybits ≤ 8 * length y → st .settings .m ≤ 8 * length bits → Ready y (t .y) (t .q) (t .p) s (st .settings .m) (st .settings .k) bits 0
     search-ready y bits h i =

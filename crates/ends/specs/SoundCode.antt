@@ -1,4 +1,4 @@
--- Parts of the soundness test by names of their own, what the functions of src/sound.rt require, and laws for their proofs.
+-- What the functions of src/sound.rt require, and laws for their proofs. The test itself is defined in protocol, Soundness.
 use mathlib.Core.Path.{_≡_, refl, ap}
 use mathlib.Core.Bool.{Bool, true, false, cond, _&&_}
 use mathlib.Core.List.{List, [], _∷_}
@@ -8,40 +8,19 @@ use native.Mathlib.Numerals.{add-one}
 use native.Mathlib.Omega.{arith}
 use lib.ListN.{length, getD}
 use lib.Dec.{leb, eqb}
-use borrow.Author.Tests.{leb-true, lt-leb, le-leb, eq-eqb, ne-eqb}
-use Rattle.strings.specs.Tests.{and-left, and-right}
-use Rattle.protocol.specs.declared.Settings.{Settings}
+use borrow.Author.Tests.{lt-leb, le-leb, eq-eqb, ne-eqb}
 use Rattle.protocol.specs.declared.Piece.{Piece}
 use Rattle.protocol.specs.declared.Rebuilder.{Rebuilder}
-use Rattle.protocol.specs.Limits.{Limits, withinLimits, between}
+use Rattle.protocol.specs.Limits.{Limits, withinLimits}
 use Rattle.protocol.specs.Counts.{bound}
-use Rattle.protocol.specs.Shape.{full}
-use Rattle.protocol.specs.States.{noPiece, held, top}
-use Rattle.protocol.specs.Soundness.{isBlank, blankFrom, pieceFits, inOrder, rowsLeft, asksLeft, stageFits, openingSound, piecesSound, wholeSound, sound}
+use Rattle.protocol.specs.States.{noPiece, held}
+use Rattle.protocol.specs.StackLaws.{held-length}
+use Rattle.protocol.specs.Soundness.{isBlank, blankFrom, pieceFits, inOrder, rowsLeft, asksLeft, openingSound, piecesSound, wholeSound, phaseSound, sound}
 
--- ---- parts of the test
 -- the sum of a·floor(p/m) + b over pieces
 unfoldable pub workLeft : (a b m : ℕ) → List Piece → ℕ
 workLeft a b m [] = 0
 workLeft a b m (pc ∷ l) = a * (pc .p / m) + b + workLeft a b m l
-
-abbrev pub topStageFits : Rebuilder → Bool
-topStageFits st = cond (eqb (st .waiting) 0) (eqb (st .stage) 0) (stageFits (st .settings) (top st .p) (top st .q) (st .stage))
-
-abbrev pub rowsFit : Rebuilder → Bool
-rowsFit st = leb (st .rows + rowsLeft (st .settings .m) (held (st .waiting) (st .pieces))) (2 * (st .n / st .settings .m) + 1)
-
-abbrev pub asksFit : Rebuilder → Bool
-asksFit st = leb (st .answered + asksLeft (st .settings .m) (held (st .waiting) (st .pieces))) (9 * (st .n / st .settings .m) + 6 + st .stage)
-
-abbrev pub lastAskFits : Rebuilder → Bool
-lastAskFits st = leb (st .answered + 1) (9 * (st .n / st .settings .m) + 6)
-
-abbrev pub mostCounted : Rebuilder → ℕ
-mostCounted st = cond (eqb (st .waiting) 0) (st .settings .ceiling + full (st .n) + max 9 (full (st .n))) (st .settings .ceiling)
-
-unfoldable pub phaseSound : Rebuilder → Bool
-phaseSound st = cond (eqb (st .phase) 0) (openingSound st) (cond (eqb (st .phase) 1) (piecesSound st) (eqb (st .phase) 2 && wholeSound st))
 
 -- ---- what is required
 -- what the first tests show
@@ -82,20 +61,16 @@ bound-next b i e = rw (add-one, e) refl
 pub held-next : (l : List Piece) (i : ℕ) → 0 < i → held i l ≡ getD l (i - 1) noPiece ∷ held (i - 1) l
 held-next l i h = let n : i ≡ suc (i - 1) = omega arith in ap (λ (k : ℕ). held k l) n
 
-pub held-length : (l : List Piece) (i : ℕ) → length (held i l) ≡ i
-held-length l zero = refl
-held-length l (suc i) = ap suc (held-length l i)
-
 module _ (n e x y : ℕ) (l : List Piece) (i : ℕ) where
   pub order-next : 0 < i → (b : Bool) → b ≡ pieceFits n e x y (i - 1) (getD l (i - 1) noPiece) → b ≡ true → (x′ y′ : ℕ)
       → x′ ≡ getD l (i - 1) noPiece .x + getD l (i - 1) noPiece .p → y′ ≡ getD l (i - 1) noPiece .y + getD l (i - 1) noPiece .q
       → inOrder n e x y (held i l) ≡ inOrder n e x′ y′ (held (i - 1) l)
   unfolding inOrder
-  order-next h b f g x′ y′ a c = rw (held-next l i h, held-length l (i - 1), ← f, g, a, c) refl
+  order-next h b f g x′ y′ a c = rw (held-next l i h, held-length (i - 1) l, ← f, g, a, c) refl
 
   pub order-not : 0 < i → (b : Bool) → b ≡ pieceFits n e x y (i - 1) (getD l (i - 1) noPiece) → b ≡ false → inOrder n e x y (held i l) ≡ false
   unfolding inOrder
-  order-not h b f g = rw (held-next l i h, held-length l (i - 1), ← f, g) refl
+  order-not h b f g = rw (held-next l i h, held-length (i - 1) l, ← f, g) refl
 
   pub order-all : i ≤ 0 → inOrder n e x y (held i l) ≡ true
   unfolding inOrder
@@ -129,45 +104,15 @@ unfolding asksLeft workLeft
 asks-left m [] = refl
 asks-left m (pc ∷ l) = ap (λ (k : ℕ). 9 * (pc .p / m) + 5 + k) (asks-left m l)
 
--- ---- settings that pass
-pub within-limits : (S : Settings) → withinLimits S ≡ true → Limits S
-unfolding withinLimits
-within-limits S t =
-    let z₃ = between 1 (S .key) 4294967295 && leb (S .ceiling) 16384 in
-    let z₂ = between 1 (S .k) 8 && z₃ in
-    let z₁ = between 8 (S .h) 32 && z₂ in
-    let t₁ = and-right (between 8 (S .m) 64) z₁ t in
-    let t₂ = and-right (between 8 (S .h) 32) z₂ t₁ in
-    let t₃ = and-right (between 1 (S .k) 8) z₃ t₂ in
-    let m = and-left (between 8 (S .m) 64) z₁ t in
-    let h = and-left (between 8 (S .h) 32) z₂ t₁ in
-    let k = and-left (between 1 (S .k) 8) z₃ t₂ in
-    let y = and-left (between 1 (S .key) 4294967295) (leb (S .ceiling) 16384) t₃ in
-    let y₁ = leb-true (S .key) 4294967295 (and-right (leb 1 (S .key)) (leb (S .key) 4294967295) y) in
-    record {
-      m-least = leb-true 8 (S .m) (and-left (leb 8 (S .m)) (leb (S .m) 64) m);
-      m-most = leb-true (S .m) 64 (and-right (leb 8 (S .m)) (leb (S .m) 64) m);
-      h-least = leb-true 8 (S .h) (and-left (leb 8 (S .h)) (leb (S .h) 32) h);
-      h-most = leb-true (S .h) 32 (and-right (leb 8 (S .h)) (leb (S .h) 32) h);
-      k-least = leb-true 1 (S .k) (and-left (leb 1 (S .k)) (leb (S .k) 8) k);
-      k-most = leb-true (S .k) 8 (and-right (leb 1 (S .k)) (leb (S .k) 8) k);
-      key-least = leb-true 1 (S .key) (and-left (leb 1 (S .key)) (leb (S .key) 4294967295) y);
-      key-most = omega arith;
-      ceiling-most = leb-true (S .ceiling) 16384 (and-right (between 1 (S .key) 4294967295) (leb (S .ceiling) 16384) t₃);
-    }
-
 -- ---- the test by its cases
 module _ (st : Rebuilder) where
   pub phase-opening : st .phase ≡ 0 → (r : Bool) → r ≡ openingSound st → r ≡ phaseSound st
-  unfolding phaseSound
   phase-opening e r f = rw (eq-eqb (st .phase) 0 e) f
 
   pub phase-pieces : (st .phase ≡ 0 → ⊥) → st .phase ≡ 1 → (r : Bool) → r ≡ piecesSound st → r ≡ phaseSound st
-  unfolding phaseSound
   phase-pieces z e r f = rw (ne-eqb (st .phase) 0 z, eq-eqb (st .phase) 1 e) f
 
   pub phase-whole : (st .phase ≡ 0 → ⊥) → (st .phase ≡ 1 → ⊥) → (w r : Bool) → w ≡ wholeSound st → r ≡ eqb (st .phase) 2 && w → r ≡ phaseSound st
-  unfolding phaseSound
   phase-whole z o w r e f = rw (ne-eqb (st .phase) 0 z, ne-eqb (st .phase) 1 o, ← e) f
 
   pub sound-settings : (t : Bool) → t ≡ withinLimits (st .settings) → t ≡ false → false ≡ sound st
@@ -189,5 +134,5 @@ module _ (st : Rebuilder) where
 
     pub sound-rest : st .ybits ≤ 65536 → st .n ≤ 65536 → st .waiting ≤ 32 → (u v r : Bool) → u ≡ blankFrom (st .pieces) (32 - st .waiting) (st .waiting) → v ≡ phaseSound st
         → r ≡ u && v → r ≡ sound st
-    unfolding sound phaseSound
+    unfolding sound
     sound-rest a b c u v r g h k = rw (k, g, h, ← e, f, le-leb (st .ybits) 65536 a, le-leb (st .n) 65536 b, le-leb (st .waiting) 32 c) refl

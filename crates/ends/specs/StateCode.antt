@@ -109,12 +109,6 @@ pub split-is : (st one two three four : Rebuilder) (t : Piece) (s r : ℕ) → t
 unfolding splitAt
 split-is st one two three four t s r a b c d e = rw (e, d, c, b, a) refl
 
--- an anchor is within its piece
-pub offset-in : (m p j : ℕ) → 4 * m ≤ p → anchorOffset m p j + m ≤ p
-unfolding anchorOffset
-offset-in m p j h =
-    by-test (λ (s : ℕ). s + m ≤ p) (eqb j 1) (λ e. omega arith) (λ e. by-test (λ (s : ℕ). s + m ≤ p) (eqb j 2) (λ f. omega arith) (λ f. omega arith))
-
 -- ---- the stage at which a piece begins
 pub one-less : (p q : ℕ) → q + 1 ≡ p → true ≡ withinOne p q
 unfolding withinOne

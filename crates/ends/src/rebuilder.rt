@@ -18,9 +18,9 @@ ghost use Rattle.protocol.specs.declared.How.the-variants.{ByAnchor};
 ghost use Rattle.protocol.specs.RebuilderCall.{tallied, stepOf, questionLength, awaits, rebuilderCall, rebuilderStart};
 ghost use Rattle.ends.specs.RebuilderCode.{OutIs, refusal, Acting, Splitting, Lending, OneApart, repairHow, trialStep, saidRebuilder, leavesRebuilder, stepTaken, WholeDue, Opening, BitsDue, dueLength, Due, answerRoom, heardStep, rooms, noRebuilder, saidStart, leavesStart};
 ghost use Rattle.ends.specs.declared.rebuilder.StartAnswer.the-variants.{NotBegun};
-use crate::anchor::Place;
 use crate::sound::rebuilder_is_sound;
 use crate::state::Plan;
+use anchors::Place;
 use codes::Edit;
 use codes::Repair;
 use messages::AnswerRead;
@@ -64,7 +64,7 @@ pub struct RebuilderOut {
 }
 
 // The number of how.
-pub fn how_number(how: How) -> u32
+fn how_number(how: How) -> u32
     ensures { λ r. ⌜ r ≡ howNumber how ⌝ }
 {
     match how {
@@ -282,7 +282,7 @@ fn take_anchor(
     let m = st.settings.m as usize;
     let k = st.settings.k as usize;
     let s = crate::state::anchor_offset(st.settings.m, t.p, st.stage);
-    let place = crate::anchor::place_anchor(
+    let place = anchors::place_anchor(
         y,
         t.y as usize,
         t.q as usize,

@@ -7,9 +7,9 @@ ghost use Rattle.protocol.specs.Limits.{withinLimits, between};
 ghost use Rattle.protocol.specs.Counts.{bound};
 ghost use Rattle.protocol.specs.Shape.{full};
 ghost use Rattle.protocol.specs.States.{held};
-ghost use Rattle.protocol.specs.Soundness.{holderSound, isBlank, blankFrom, pieceFits, inOrder, stageFits, stackSound, openingSound, piecesSound, wholeSound, sound};
+ghost use Rattle.protocol.specs.Soundness.{holderSound, isBlank, blankFrom, pieceFits, inOrder, stageFits, stackSound, openingSound, piecesSound, wholeSound, sound, topFits, rowsFit, asksFit, lastAskFits, mostCounted, phaseSound};
 ghost use Rattle.ends.specs.StateCode.{Usable};
-ghost use Rattle.ends.specs.SoundCode.{Sized, Work, Sum, topStageFits, rowsFit, asksFit, lastAskFits, mostCounted, phaseSound};
+ghost use Rattle.ends.specs.SoundCode.{Sized, Work, Sum};
 use crate::state::too_small;
 use crate::state::top;
 use crate::state::wide;
@@ -39,14 +39,14 @@ pub fn holder_is_sound(st: Holder) -> bool
 }
 
 // Whether no field of the piece is set.
-pub fn is_blank(pc: Piece) -> bool
+fn is_blank(pc: Piece) -> bool
     ensures { λ r. ⌜ r ≡ isBlank pc ⌝ }
 {
     both(pc.x == 0, both(pc.p == 0, both(pc.y == 0, pc.q == 0)))
 }
 
 // Whether all entries behind the waiting pieces are zeros.
-pub fn blank_behind(st: Rebuilder) -> bool
+fn blank_behind(st: Rebuilder) -> bool
     requires { ⌜ st .waiting ≤ 32 ⌝ }
     ensures { λ r. ⌜ r ≡ blankFrom (st .pieces) (32 - st .waiting) (st .waiting) ⌝ }
 {
@@ -62,7 +62,7 @@ pub fn blank_behind(st: Rebuilder) -> bool
 }
 
 // How long a waiting piece with d others to its right can be.
-pub fn length_bound(d: u32) -> u32
+fn length_bound(d: u32) -> u32
     ensures { λ r. ⌜ r ≡ bound d ⌝ }
 {
     let mut b: u32 = 65536;
@@ -75,7 +75,7 @@ pub fn length_bound(d: u32) -> u32
 }
 
 // Whether a waiting piece with d others to its right begins at x and y or later, ends by n and e, and is not too long.
-pub fn piece_fits(n: u64, e: u64, x: u64, y: u64, d: u32, pc: Piece) -> bool
+fn piece_fits(n: u64, e: u64, x: u64, y: u64, d: u32, pc: Piece) -> bool
     ensures { λ r. ⌜ r ≡ pieceFits n e x y d pc ⌝ }
 {
     let a = wide(pc.x);
@@ -87,7 +87,7 @@ pub fn piece_fits(n: u64, e: u64, x: u64, y: u64, d: u32, pc: Piece) -> bool
 }
 
 // Whether the waiting pieces, from the leftmost on, follow one another.
-pub fn in_order(st: Rebuilder) -> bool
+fn in_order(st: Rebuilder) -> bool
     requires { ⌜ st .waiting ≤ 32 ⌝ }
     ensures { λ r. ⌜ r ≡ inOrder (st .n) (st .ybits) 0 0 (held (st .waiting) (st .pieces)) ⌝ }
 {
@@ -110,7 +110,7 @@ pub fn in_order(st: Rebuilder) -> bool
 }
 
 // The sum of a·floor(p/m) + b over the waiting pieces.
-pub fn work_left(st: Rebuilder, a: u64, b: u64) -> u64
+fn work_left(st: Rebuilder, a: u64, b: u64) -> u64
     requires { ⌜ Work st a b ⌝ }
     ensures { λ r. ⌜ Sum st a b r ⌝ }
 {
@@ -128,7 +128,7 @@ pub fn work_left(st: Rebuilder, a: u64, b: u64) -> u64
 }
 
 // Whether the used rows and those to come are within the sheet's.
-pub fn rows_fit(st: Rebuilder) -> bool
+fn rows_fit(st: Rebuilder) -> bool
     requires { ⌜ Sized st ⌝ }
     ensures { λ r. ⌜ r ≡ rowsFit st ⌝ }
 {
@@ -140,7 +140,7 @@ pub fn rows_fit(st: Rebuilder) -> bool
 }
 
 // Whether the questions answered and those to come are within the bound.
-pub fn asks_fit(st: Rebuilder) -> bool
+fn asks_fit(st: Rebuilder) -> bool
     requires { ⌜ Sized st ⌝ }
     ensures { λ r. ⌜ r ≡ asksFit st ⌝ }
 {
@@ -153,7 +153,7 @@ pub fn asks_fit(st: Rebuilder) -> bool
 }
 
 // Whether one more question is within the bound.
-pub fn last_ask_fits(st: Rebuilder) -> bool
+fn last_ask_fits(st: Rebuilder) -> bool
     requires { ⌜ Sized st ⌝ }
     ensures { λ r. ⌜ r ≡ lastAskFits st ⌝ }
 {
@@ -164,7 +164,7 @@ pub fn last_ask_fits(st: Rebuilder) -> bool
 }
 
 // Whether the stage suits lengths p and q.
-pub fn stage_fits(s: Settings, p: u32, q: u32, j: u32) -> bool
+fn stage_fits(s: Settings, p: u32, q: u32, j: u32) -> bool
     requires { ⌜ Usable s ⌝ }
     ensures { λ r. ⌜ r ≡ stageFits s p q j ⌝ }
 {
@@ -181,9 +181,9 @@ pub fn stage_fits(s: Settings, p: u32, q: u32, j: u32) -> bool
 }
 
 // Whether the stage suits the leftmost piece; it is 0 if none waits.
-pub fn top_stage_fits(st: Rebuilder) -> bool
+fn top_stage_fits(st: Rebuilder) -> bool
     requires { ⌜ Sized st ⌝ }
-    ensures { λ r. ⌜ r ≡ topStageFits st ⌝ }
+    ensures { λ r. ⌜ r ≡ topFits st ⌝ }
 {
     if st.waiting == 0 {
         return st.stage == 0;
@@ -193,7 +193,7 @@ pub fn top_stage_fits(st: Rebuilder) -> bool
 }
 
 // Whether the waiting pieces, the stage and the used rows are such as a run can hold.
-pub fn stack_is_sound(st: Rebuilder) -> bool
+fn stack_is_sound(st: Rebuilder) -> bool
     requires { ⌜ Sized st ⌝ }
     ensures { λ r. ⌜ r ≡ stackSound st ⌝ }
 {
@@ -201,7 +201,7 @@ pub fn stack_is_sound(st: Rebuilder) -> bool
 }
 
 // The bytes of the answer with all n bits.
-pub fn full_size(n: u32) -> u32
+fn full_size(n: u32) -> u32
     requires { ⌜ n ≤ 65536 ⌝ }
     ensures { λ r. ⌜ r ≡ full n ⌝ }
 {
@@ -209,7 +209,7 @@ pub fn full_size(n: u32) -> u32
 }
 
 // The most bytes that one answer has.
-pub fn answer_bound(n: u32) -> u32
+fn answer_bound(n: u32) -> u32
     requires { ⌜ n ≤ 65536 ⌝ }
     ensures { λ r. ⌜ r ≡ max 9 (full n) ⌝ }
 {
@@ -221,7 +221,7 @@ pub fn answer_bound(n: u32) -> u32
 }
 
 // The most bytes that can be counted while pieces are worked on.
-pub fn most_counted(st: Rebuilder) -> u32
+fn most_counted(st: Rebuilder) -> u32
     requires { ⌜ Sized st ⌝ }
     ensures { λ r. ⌜ r ≡ mostCounted st ⌝ }
 {
@@ -232,7 +232,7 @@ pub fn most_counted(st: Rebuilder) -> u32
 }
 
 // For a state that awaits the opening's answer.
-pub fn opening_is_sound(st: Rebuilder) -> bool
+fn opening_is_sound(st: Rebuilder) -> bool
     ensures { λ r. ⌜ r ≡ openingSound st ⌝ }
 {
     let rest = both(st.rows == 0, both(st.stage == 0, st.waiting == 0));
@@ -243,7 +243,7 @@ pub fn opening_is_sound(st: Rebuilder) -> bool
 }
 
 // For a state that works on pieces, or is finished.
-pub fn pieces_are_sound(st: Rebuilder) -> bool
+fn pieces_are_sound(st: Rebuilder) -> bool
     requires { ⌜ Sized st ⌝ }
     ensures { λ r. ⌜ r ≡ piecesSound st ⌝ }
 {
@@ -252,7 +252,7 @@ pub fn pieces_are_sound(st: Rebuilder) -> bool
 }
 
 // For a state that awaits all bits.
-pub fn whole_is_sound(st: Rebuilder) -> bool
+fn whole_is_sound(st: Rebuilder) -> bool
     requires { ⌜ Sized st ⌝ }
     ensures { λ r. ⌜ r ≡ wholeSound st ⌝ }
 {
@@ -263,7 +263,7 @@ pub fn whole_is_sound(st: Rebuilder) -> bool
 }
 
 // By phase.
-pub fn phase_is_sound(st: Rebuilder) -> bool
+fn phase_is_sound(st: Rebuilder) -> bool
     requires { ⌜ Sized st ⌝ }
     ensures { λ r. ⌜ r ≡ phaseSound st ⌝ }
 {

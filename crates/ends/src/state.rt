@@ -50,7 +50,7 @@ pub fn pop(st: Rebuilder) -> Rebuilder
 }
 
 // The state with one more piece, unless this is empty.
-pub fn push(st: Rebuilder, pc: Piece) -> Rebuilder
+fn push(st: Rebuilder, pc: Piece) -> Rebuilder
     requires { ⌜ st .waiting < 32 ⌝ }
     ensures { λ r. ⌜ r ≡ pushed st pc ⌝ }
 {
@@ -99,7 +99,7 @@ pub fn too_small(s: Settings, p: u32, q: u32) -> bool
 }
 
 // The stage of step 4: 1 for the first anchor, 4 for all bits.
-pub fn later_number(s: Settings, p: u32, q: u32) -> u32
+fn later_number(s: Settings, p: u32, q: u32) -> u32
     requires { ⌜ Usable s ⌝ }
     ensures { λ r. ⌜ r ≡ laterNumber s p q ⌝ }
 {
@@ -110,7 +110,7 @@ pub fn later_number(s: Settings, p: u32, q: u32) -> u32
 }
 
 // The stage at which a piece begins.
-pub fn first_number(s: Settings, p: u32, q: u32) -> u32
+fn first_number(s: Settings, p: u32, q: u32) -> u32
     requires { ⌜ Usable s ⌝ }
     ensures { λ r. ⌜ r ≡ firstNumber s p q ⌝ }
 {
@@ -121,7 +121,7 @@ pub fn first_number(s: Settings, p: u32, q: u32) -> u32
 }
 
 // The stage after stage j.
-pub fn next_number(s: Settings, p: u32, q: u32, j: u32) -> u32
+fn next_number(s: Settings, p: u32, q: u32, j: u32) -> u32
     requires { ⌜ Usable s × (j < 4) ⌝ }
     ensures { λ r. ⌜ r ≡ nextNumber s p q j ⌝ }
 {
@@ -273,7 +273,7 @@ pub fn fresh_rebuilder(settings: Settings, bits: u32) -> Rebuilder
 }
 
 // The question for the leftmost piece t at stage j.
-pub fn ask_for(m: u32, j: u32, t: Piece) -> Question
+fn ask_for(m: u32, j: u32, t: Piece) -> Question
     requires { ⌜ Asks m j t ⌝ }
     ensures { λ r. ⌜ r ≡ askFor m j t ⌝ }
 {

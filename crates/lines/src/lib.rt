@@ -36,7 +36,7 @@ pub enum StringRead {
 }
 
 // The index of the first separator from index `from` on, or the length.
-pub fn field_end(s: &[u8], separator: u8, from: usize) -> usize
+fn field_end(s: &[u8], separator: u8, from: usize) -> usize
     ensures { λ r. ⌜ r ≡ fieldEnd separator (now (s .entry)) from ⌝ }
 {
     let mut i = from;
@@ -50,7 +50,7 @@ pub fn field_end(s: &[u8], separator: u8, from: usize) -> usize
 }
 
 // The field with this index, counted from 0. The lines of the input are its fields at newlines, the groups of the settings line its fields at blanks.
-pub fn find_field(s: &[u8], separator: u8, index: usize) -> FieldFound
+fn find_field(s: &[u8], separator: u8, index: usize) -> FieldFound
     ensures { λ r. ⌜ r ≡ field separator index (now (s .entry)) ⌝ }
 {
     let mut from: usize = 0;
@@ -85,7 +85,7 @@ fn digit_value(x: u8) -> u64
 }
 
 // A decimal number: one or more digits, the highest first, leading zeros allowed, below 2^32.
-pub fn parse_decimal(s: &[u8]) -> Decimal
+fn parse_decimal(s: &[u8]) -> Decimal
     ensures { λ r. ⌜ r ≡ decimalOf (now (s .entry)) ⌝ }
 {
     if s.len() == 0 {
@@ -141,7 +141,7 @@ fn five_groups(line: &[u8]) -> SettingsRead
 
 // The settings line: five groups parted by single blanks, and no sixth. At most 65,536 characters, so that a program can read
 // three lines of any input into a buffer of fixed size.
-pub fn parse_settings(line: &[u8]) -> SettingsRead
+fn parse_settings(line: &[u8]) -> SettingsRead
     ensures { λ r. ⌜ r ≡ settingsOf (now (line .entry)) ⌝ }
 {
     if 65536 < line.len() {
@@ -199,7 +199,7 @@ fn write_line(s: &[u8], out: &mut [u8])
 }
 
 // A line of zeros and ones, at most 65,536, is packed at the front of the buffer. Nothing is written before the whole line was checked.
-pub fn parse_bits(s: &[u8], out: &mut [u8]) -> StringRead
+fn parse_bits(s: &[u8], out: &mut [u8]) -> StringRead
     ensures { λ r. ⌜ leaves r (now (out .exit)) ≡ stringInto (now (s .entry)) (now (out .entry)) ⌝ }
 {
     let n = s.len();
@@ -230,7 +230,7 @@ pub fn read_string(input: &[u8], index: usize, out: &mut [u8]) -> StringRead
 
 // Each of the following functions writes from index `at` of the output buffer on, and gives the index behind what it wrote.
 
-pub fn put_byte(out: &mut [u8], at: usize, x: u8) -> usize
+fn put_byte(out: &mut [u8], at: usize, x: u8) -> usize
     requires { ⌜ at + 1 ≤ length (now out) ⌝ }
     ensures { λ r. ⌜ Puts (now (out .entry)) at (x ∷ []) (now (out .exit)) r ⌝ }
 {
@@ -249,7 +249,7 @@ fn hex_digit(d: u8) -> u8
 }
 
 // The bytes in hexadecimal.
-pub fn put_hex(out: &mut [u8], at: usize, s: &[u8]) -> usize
+fn put_hex(out: &mut [u8], at: usize, s: &[u8]) -> usize
     requires { ⌜ at + 2 * length (now s) ≤ length (now out) ⌝ }
     ensures { λ r. ⌜ Puts (now (out .entry)) at (hexOf (now (s .entry))) (now (out .exit)) r ⌝ }
 {
@@ -266,7 +266,7 @@ pub fn put_hex(out: &mut [u8], at: usize, s: &[u8]) -> usize
 }
 
 // A number in decimal.
-pub fn put_decimal(out: &mut [u8], at: usize, v: u32) -> usize
+fn put_decimal(out: &mut [u8], at: usize, v: u32) -> usize
     requires { ⌜ at + length (decimal v) ≤ length (now out) ⌝ }
     ensures { λ r. ⌜ Puts (now (out .entry)) at (decimal v) (now (out .exit)) r ⌝ }
 {
@@ -289,7 +289,7 @@ fn bit_byte(b: bool) -> u8
 }
 
 // The first n bits of a string as zeros and ones.
-pub fn put_bits(out: &mut [u8], at: usize, s: &[u8], n: usize) -> usize
+fn put_bits(out: &mut [u8], at: usize, s: &[u8], n: usize) -> usize
     requires { ⌜ at + n ≤ length (now out) ⌝ }
     requires { ⌜ n ≤ 8 * length (now s) ⌝ }
     ensures { λ r. ⌜ Puts (now (out .entry)) at (bitBytes (range (now (s .entry)) 0 n)) (now (out .exit)) r ⌝ }

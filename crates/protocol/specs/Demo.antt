@@ -22,7 +22,7 @@ use Rattle.protocol.specs.Limits.{houseSettings, withinLimits}
 use Rattle.protocol.specs.Anchors.{isqrt, place}
 use Rattle.protocol.specs.Segments.{hashOf, laterStage, effect}
 use Rattle.protocol.specs.States.{noPiece, laterNumber, firstNumber, nextNumber, anchorOffset, top, popped, pushed, restaged, retried, splitAt, askFor, planned}
-use Rattle.protocol.specs.Soundness.{holderSound, isBlank, blankFrom, pieceFits, inOrder, rowsLeft, asksLeft, stageFits, stackSound, openingSound, piecesSound, wholeSound, sound}
+use Rattle.protocol.specs.Soundness.{holderSound, isBlank, blankFrom, pieceFits, inOrder, rowsLeft, asksLeft, stageFits, stackSound, topFits, openingSound, piecesSound, wholeSound, sound}
 use Rattle.protocol.specs.HolderCall.{Heard, declines, replies, freshHolder, sameBitCount, sends, holderCall}
 use Rattle.protocol.specs.RebuilderCall.{Started, startDeclines, starts, rebuilderStart, Step, Taken, refuses, takes, noRow, stringAfter, sheetAfter, tallied, effectStep, openingStep, wholeStep, stepOf, rebuilderCall, freshRebuilder}
 use Rattle.protocol.specs.Worlds.{Call, toHolder, toRebuilder, Lent, roomsOf, world, firstWorld, worldAfter}
@@ -418,7 +418,7 @@ pub record Demo : Type 0 where
       ((0x02 ∷ 0x03 ∷ 0xab ∷ 0x01 ∷ []) ∷ (0x00 ∷ 0x04 ∷ []) ∷ [])
 
 pub demo : Demo
-unfolding bitAt range flipped setBit writeBits pack cleared sameBits noneSet stringRule syndrome insertions deletions withSyndrome putIn takeOut xorLeft xorRight step hashFrom hash groups number nextByte numberAt kindAt questionBytes openingAt rangeAt fieldsAt answerBytes sizeAt hashAt syndromeAt bitsAt answerFields readAnswer withinLimits isqrt place hashOf laterStage effect laterNumber firstNumber nextNumber anchorOffset top popped pushed restaged retried splitAt askFor planned holderSound isBlank blankFrom pieceFits inOrder rowsLeft asksLeft stageFits stackSound openingSound piecesSound wholeSound sound sameBitCount sends holderCall rebuilderStart tallied effectStep openingStep wholeStep stepOf rebuilderCall
+unfolding bitAt range flipped setBit writeBits pack cleared sameBits noneSet stringRule syndrome insertions deletions withSyndrome putIn takeOut xorLeft xorRight step hashFrom hash groups number nextByte numberAt kindAt questionBytes openingAt rangeAt fieldsAt answerBytes sizeAt hashAt syndromeAt bitsAt answerFields readAnswer withinLimits isqrt place hashOf laterStage effect laterNumber firstNumber nextNumber anchorOffset top popped pushed restaged retried splitAt askFor planned holderSound isBlank blankFrom pieceFits inOrder rowsLeft asksLeft stageFits topFits stackSound openingSound piecesSound wholeSound sound sameBitCount sends holderCall rebuilderStart tallied effectStep openingStep wholeStep stepOf rebuilderCall
 demo =
     record {
       example = refl;

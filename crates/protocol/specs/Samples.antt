@@ -26,7 +26,7 @@ use Rattle.protocol.specs.Anchors.{isqrt, place}
 use Rattle.protocol.specs.Segments.{hashing, puttingIn, takingOut, anchors, dropped, waiting, settled, hashOf, laterStage, firstStage, begin, effect}
 use Rattle.protocol.specs.Runs.{sizeOf, working, whole, judge, blank}
 use Rattle.protocol.specs.States.{noPiece, laterNumber, firstNumber, nextNumber, anchorOffset, top, popped, restaged, retried, askFor, planned}
-use Rattle.protocol.specs.Soundness.{holderSound, isBlank, blankFrom, pieceFits, inOrder, rowsLeft, asksLeft, stageFits, stackSound, openingSound, piecesSound, wholeSound, sound}
+use Rattle.protocol.specs.Soundness.{holderSound, isBlank, blankFrom, pieceFits, inOrder, rowsLeft, asksLeft, stageFits, stackSound, topFits, openingSound, piecesSound, wholeSound, sound}
 use Rattle.protocol.specs.HolderCall.{Heard, declines, replies, freshHolder, sameBitCount, sends, holderCall}
 use Rattle.protocol.specs.RebuilderCall.{Started, startDeclines, starts, rebuilderStart, Taken, refuses, takes, Rooms, noRow, clears, writes, stringAfter, sheetAfter, tallied, effectStep, stepOf, rebuilderCall, freshRebuilder}
 
@@ -413,7 +413,7 @@ pub record Samples : Type 0 where
   pub sound-whole-110 : sound (state 2 4 1 110 0 0 1) ≡ false
 
 pub samples : Samples
-unfolding bitAt range flipped setBit writeBits pack cleared sameBits noneSet stringRule syndrome insertions withSyndrome putIn xorLeft xorRight step hashFrom hash groups number nextByte numberAt kindAt questionBytes openingAt rangeAt fieldsAt answerBytes sizeAt syndromeAt bitsAt answerFields readAnswer withinLimits isqrt place hashOf laterStage firstStage begin effect sizeOf judge laterNumber firstNumber nextNumber anchorOffset top popped restaged retried askFor planned holderSound isBlank blankFrom pieceFits inOrder rowsLeft asksLeft stageFits stackSound openingSound piecesSound wholeSound sound sameBitCount sends holderCall rebuilderStart tallied effectStep stepOf rebuilderCall
+unfolding bitAt range flipped setBit writeBits pack cleared sameBits noneSet stringRule syndrome insertions withSyndrome putIn xorLeft xorRight step hashFrom hash groups number nextByte numberAt kindAt questionBytes openingAt rangeAt fieldsAt answerBytes sizeAt syndromeAt bitsAt answerFields readAnswer withinLimits isqrt place hashOf laterStage firstStage begin effect sizeOf judge laterNumber firstNumber nextNumber anchorOffset top popped restaged retried askFor planned holderSound isBlank blankFrom pieceFits inOrder rowsLeft asksLeft stageFits topFits stackSound openingSound piecesSound wholeSound sound sameBitCount sends holderCall rebuilderStart tallied effectStep stepOf rebuilderCall
 samples =
     record {
       m-7 = refl;

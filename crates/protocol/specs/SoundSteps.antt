@@ -23,7 +23,7 @@ use Rattle.protocol.specs.Runs.{blank, sizeOf}
 use Rattle.protocol.specs.Segments.{Effect, Stage, asks, effect, settles, splits, stays, theBits, theSize, tooSmall, waiting}
 use Rattle.protocol.specs.Shape.{Inside, Proper, full, proper-bits, size-bits, sizes}
 use Rattle.protocol.specs.SoundLaws.{Ordered, and-true, blank-is, both, first-fits, fits-stage, is-blank, is-limits, is-order, limits-is, next-fits, next-later, not-true, order-is, ordered-from, stage-most}
-use Rattle.protocol.specs.Soundness.{asksLeft, blankFrom, inOrder, openingSound, piecesSound, rowsLeft, sound, stackSound, stageFits, wholeSound}
+use Rattle.protocol.specs.Soundness.{asksLeft, blankFrom, inOrder, mostCounted, openingSound, phaseSound, piecesSound, rowsFit, rowsLeft, sound, stackSound, stageFits, topFits, wholeSound}
 use Rattle.protocol.specs.StackLaws.{held-length}
 use Rattle.protocol.specs.States.{anchorOffset, askFor, firstNumber, held, leftPiece, noPiece, planned, popped, pushed, restaged, retried, rightPiece, splitAt, top}
 use Rattle.protocol.specs.Steps.{step-opening, step-pieces, step-whole}
@@ -103,24 +103,20 @@ module _ (S : Settings) (L : Limits S) where
       }
 
 -- ---- the parts of the test
--- the leftmost piece's stage suits it; with none waiting it is 0
-unfoldable pub topFits : Rebuilder → Bool
-topFits st = cond (eqb (st .waiting) 0) (eqb (st .stage) 0) (stageFits (st .settings) (top st .p) (top st .q) (st .stage))
-
 pub record StackIs (st : Rebuilder) : Type 0 where
   pub fits : topFits st ≡ true
   pub order : Ordered (st .n) (st .ybits) 0 0 (held (st .waiting) (st .pieces))
   pub rows : st .rows + rowsLeft (st .settings .m) (held (st .waiting) (st .pieces)) ≤ 2 * (st .n / st .settings .m) + 1
 
 pub stack-is : (st : Rebuilder) → stackSound st ≡ true → StackIs st
-unfolding stackSound topFits
+unfolding stackSound
 stack-is st e =
-    let a = both (topFits st) (inOrder (st .n) (st .ybits) 0 0 (held (st .waiting) (st .pieces)) && leb (st .rows + rowsLeft (st .settings .m) (held (st .waiting) (st .pieces))) (2 * (st .n / st .settings .m) + 1)) e in
-    let b = both (inOrder (st .n) (st .ybits) 0 0 (held (st .waiting) (st .pieces))) (leb (st .rows + rowsLeft (st .settings .m) (held (st .waiting) (st .pieces))) (2 * (st .n / st .settings .m) + 1)) (a .1) in
+    let a = both (topFits st) (inOrder (st .n) (st .ybits) 0 0 (held (st .waiting) (st .pieces)) && rowsFit st) e in
+    let b = both (inOrder (st .n) (st .ybits) 0 0 (held (st .waiting) (st .pieces))) (rowsFit st) (a .1) in
     record { fits = a .0; order = order-is (st .n) (st .ybits) 0 0 (held (st .waiting) (st .pieces)) (b .0); rows = leb-true _ _ (b .1) }
 
 pub is-stack : (st : Rebuilder) → StackIs st → stackSound st ≡ true
-unfolding stackSound topFits
+unfolding stackSound
 is-stack st k =
     and-true (topFits st) _ (k .fits)
     (and-true (inOrder (st .n) (st .ybits) 0 0 (held (st .waiting) (st .pieces))) _ (is-order (st .n) (st .ybits) 0 0 (held (st .waiting) (st .pieces)) (k .order)) (le-leb _ _ (k .rows)))
@@ -132,9 +128,6 @@ pub record Framed (st : Rebuilder) : Type 0 where
   pub size : st .n ≤ 65536
   pub few : st .waiting ≤ 32
   pub blank : Blank (st .pieces) (st .waiting)
-
-abbrev pub phaseSound : Rebuilder → Bool
-phaseSound st = cond (eqb (st .phase) 0) (openingSound st) (cond (eqb (st .phase) 1) (piecesSound st) (eqb (st .phase) 2 && wholeSound st))
 
 pub sound-is : (st : Rebuilder) → sound st ≡ true → Framed st × (phaseSound st ≡ true)
 unfolding sound
@@ -169,7 +162,7 @@ pub record PiecesIs (st : Rebuilder) : Type 0 where
   pub stack : StackIs st
   pub answered : 1 ≤ st .answered
   pub asks : st .answered + asksLeft (st .settings .m) (held (st .waiting) (st .pieces)) ≤ 9 * (st .n / st .settings .m) + 6 + st .stage
-  pub counted : st .counted ≤ cond (eqb (st .waiting) 0) (st .settings .ceiling + full (st .n) + max 9 (full (st .n))) (st .settings .ceiling)
+  pub counted : st .counted ≤ mostCounted st
 
 pub pieces-is : (st : Rebuilder) → piecesSound st ≡ true → PiecesIs st
 unfolding piecesSound
@@ -219,7 +212,7 @@ unfolding asksLeft
 some-asks m zero arr h = absurd (omega arith)
 some-asks m (suc w) arr h = omega arith
 
-top-most : (st : Rebuilder) → topFits st ≡ true → st .stage ≤ 4
+pub top-most : (st : Rebuilder) → topFits st ≡ true → st .stage ≤ 4
 unfolding topFits
 top-most st e = go (eqb (st .waiting) 0) e
   where
@@ -370,7 +363,7 @@ few-pieces i p h k = go (decLe i 22)
         let q : bound i ≡ 0 = ap bound e ∙ bound-none (i - 23) in
         absurd (omega arith)
 
-offset-within : (m p j : ℕ) → 4 * m ≤ p → anchorOffset m p j + m ≤ p
+pub offset-within : (m p j : ℕ) → 4 * m ≤ p → anchorOffset m p j + m ≤ p
 unfolding anchorOffset
 offset-within m p j h =
     by-test (λ (s : ℕ). s + m ≤ p) (eqb j 1) (λ e. omega arith) (λ e. by-test (λ (s : ℕ). s + m ≤ p) (eqb j 2) (λ f. omega arith) (λ f. omega arith))
@@ -441,6 +434,8 @@ fresh-sound S bits L h = (
 -- the opening's answer
 pub record OpeningIs (st : Rebuilder) : Type 0 where
   pub answered : st .answered ≡ 0
+  pub counted : st .counted ≡ 0
+  pub rows : st .rows ≡ 0
   pub waiting : st .waiting ≡ 0
 
 pub opening-is : (st : Rebuilder) → openingSound st ≡ true → OpeningIs st
@@ -451,7 +446,7 @@ opening-is st e =
     let c = both (eqb (st .counted) 0) _ (b .1) in
     let d = both (eqb (st .rows) 0) _ (c .1) in
     let f = both (eqb (st .stage) 0) _ (d .1) in
-    record { answered = eqb-true (st .answered) 0 (b .0); waiting = eqb-true (st .waiting) 0 (f .1) }
+    record { answered = eqb-true (st .answered) 0 (b .0); counted = eqb-true (st .counted) 0 (c .0); rows = eqb-true (st .rows) 0 (d .0); waiting = eqb-true (st .waiting) 0 (f .1) }
 
 pub opening-sound : (st : Rebuilder) (n : ℕ) → length (st .pieces) ≡ 32 → Framed st → OpeningIs st → n ≤ 65536 → Sound′ (openingStep st n .state)
 unfolding openingStep restaged

@@ -56,33 +56,48 @@ stageFits S p q j =
     cond (eqb j 0) (eqb q p || (eqb (q + 1) p || eqb q (p + 1)))
     (leb j 4 && (eqb j 4 || not (tooSmall S p q)))
 
+-- with none waiting the stage is 0
+unfoldable pub topFits : Rebuilder → Bool
+topFits st = cond (eqb (st .waiting) 0) (eqb (st .stage) 0) (stageFits (st .settings) (top st .p) (top st .q) (st .stage))
+
+-- the rows used and still to come are within the sheet that 01 asks for
+abbrev pub rowsFit : Rebuilder → Bool
+rowsFit st = leb (st .rows + rowsLeft (st .settings .m) (held (st .waiting) (st .pieces))) (2 * (st .n / st .settings .m) + 1)
+
 unfoldable pub stackSound : Rebuilder → Bool
-stackSound st =
-    cond (eqb (st .waiting) 0) (eqb (st .stage) 0) (stageFits (st .settings) (top st .p) (top st .q) (st .stage))
-    && (inOrder (st .n) (st .ybits) 0 0 (held (st .waiting) (st .pieces))
-    && leb (st .rows + rowsLeft (st .settings .m) (held (st .waiting) (st .pieces))) (2 * (st .n / st .settings .m) + 1))
+stackSound st = topFits st && (inOrder (st .n) (st .ybits) 0 0 (held (st .waiting) (st .pieces)) && rowsFit st)
 
 -- ---- by phase
 unfoldable pub openingSound : Rebuilder → Bool
 openingSound st =
     eqb (st .n) 0 && (eqb (st .answered) 0 && (eqb (st .counted) 0 && (eqb (st .rows) 0 && (eqb (st .stage) 0 && eqb (st .waiting) 0))))
 
--- the count is past the ceiling only where nothing waits; what may still be asked is within the bound (at stage j the leftmost piece has j questions less to come)
+-- what may still be asked is within the bound; at stage j the leftmost piece has j questions less to come
+abbrev pub asksFit : Rebuilder → Bool
+asksFit st = leb (st .answered + asksLeft (st .settings .m) (held (st .waiting) (st .pieces))) (9 * (st .n / st .settings .m) + 6 + st .stage)
+
+-- the count is past the ceiling only where nothing waits
+abbrev pub mostCounted : Rebuilder → ℕ
+mostCounted st = cond (eqb (st .waiting) 0) (st .settings .ceiling + full (st .n) + max 9 (full (st .n))) (st .settings .ceiling)
+
 unfoldable pub piecesSound : Rebuilder → Bool
-piecesSound st =
-    stackSound st
-    && (leb 1 (st .answered)
-    && (leb (st .answered + asksLeft (st .settings .m) (held (st .waiting) (st .pieces))) (9 * (st .n / st .settings .m) + 6 + st .stage)
-    && leb (st .counted) (cond (eqb (st .waiting) 0) (st .settings .ceiling + full (st .n) + max 9 (full (st .n))) (st .settings .ceiling))))
+piecesSound st = stackSound st && (leb 1 (st .answered) && (asksFit st && leb (st .counted) (mostCounted st)))
+
+-- one more question, for bits 0, n, is within the bound
+abbrev pub lastAskFits : Rebuilder → Bool
+lastAskFits st = leb (st .answered + 1) (9 * (st .n / st .settings .m) + 6)
 
 -- the count is past the ceiling, and pieces wait
 unfoldable pub wholeSound : Rebuilder → Bool
 wholeSound st =
     stackSound st
     && (leb 1 (st .answered)
-    && (leb (st .answered + 1) (9 * (st .n / st .settings .m) + 6)
+    && (lastAskFits st
     && (ltb 0 (st .waiting)
     && (ltb (st .settings .ceiling) (st .counted) && leb (st .counted) (st .settings .ceiling + max 9 (full (st .n)))))))
+
+abbrev pub phaseSound : Rebuilder → Bool
+phaseSound st = cond (eqb (st .phase) 0) (openingSound st) (cond (eqb (st .phase) 1) (piecesSound st) (eqb (st .phase) 2 && wholeSound st))
 
 unfoldable pub sound : Rebuilder → Bool
 sound st =
@@ -91,4 +106,4 @@ sound st =
     && (leb (st .n) 65536
     && (leb (st .waiting) 32
     && (blankFrom (st .pieces) (32 - st .waiting) (st .waiting)
-    && cond (eqb (st .phase) 0) (openingSound st) (cond (eqb (st .phase) 1) (piecesSound st) (eqb (st .phase) 2 && wholeSound st))))))
+    && phaseSound st))))

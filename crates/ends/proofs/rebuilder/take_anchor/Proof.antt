@@ -4,7 +4,7 @@ use Rattle.ends.proofs.rebuilder.take_anchor.Statement.{statement}
 use Rattle.ends.proofs.rebuilder.take_anchor.Tie as tie
 use Rattle.ends.proofs.rebuilder.take_anchor.Reads as reads
 use Rattle.ends.proofs.rebuilder.take_anchor.Lts as lts
-use Rattle.ends.proofs.anchor.place_anchor.Reads as place-anchor-reads
+use Rattle.anchors.proofs.place_anchor.Reads as place-anchor-reads
 use Rattle.ends.proofs.rebuilder.leave_waiting.Reads as leave-waiting-reads
 use Rattle.ends.proofs.rebuilder.split.Reads as split-reads
 use Rattle.ends.proofs.state.anchor_offset.Reads as anchor-offset-reads

@@ -1,6 +1,7 @@
 use mathlib.Core.Path.{sym, _∙_}
 use borrow.Author.Tests.{not-true, not-false}
-use Rattle.ends.specs.SoundCode.{within-limits, sound-settings, sound-ybits, sound-n, sound-waiting, sound-rest}
+use Rattle.protocol.specs.SoundLaws.{limits-is}
+use Rattle.ends.specs.SoundCode.{sound-settings, sound-ybits, sound-n, sound-waiting, sound-rest}
 use borrow.Author.Needs.{needs}
 use Rattle.ends.proofs.sound.rebuilder_is_sound.Statement.{statement}
 use Rattle.ends.proofs.sound.rebuilder_is_sound.Tie as tie
@@ -24,7 +25,7 @@ blank-behind-requires : tie.Need-blank-behind-requires
 blank-behind-requires c κs = search needs
 
 phase-is-sound-requires : tie.Need-phase-is-sound-requires
-phase-is-sound-requires c κs = record { limits = within-limits _ (sym (c .before .before .before .before .before .before .before .before .is-within-limits .ensures) ∙ not-false _ (c .before .before .before .before .before .before .before .if1 .left)); n-most = c .before .before .before .if3 .left; few = c .before .if4 .left }
+phase-is-sound-requires c κs = record { limits = limits-is _ (sym (c .before .before .before .before .before .before .before .before .is-within-limits .ensures) ∙ not-false _ (c .before .before .before .before .before .before .before .if1 .left)); n-most = c .before .before .before .if3 .left; few = c .before .if4 .left }
 
 both-requires : tie.Need-both-requires
 both-requires c κs = search needs

@@ -1,7 +1,7 @@
 use native.Mathlib.Omega.{arith}
 use borrow.Author.Tests.{eq-eqb, ne-eqb, le-leb, lt-leb}
 use Rattle.protocol.specs.States.{askFor}
-use Rattle.ends.specs.StateCode.{offset-in}
+use Rattle.protocol.specs.SoundSteps.{offset-within}
 use Rattle.ends.proofs.state.ask_for.Statement.{statement}
 use Rattle.ends.proofs.state.ask_for.Tie as tie
 
@@ -25,7 +25,7 @@ anchor-offset-requires c κs = let n = c .before .if1 .left in
 add-t7 : tie.Need-add-t7
 add-t7 c = let n = c .before .before .before .if1 .left in
     let l = c .before .before .before .before .pre .long (omega arith) (c .before .before .if3 .left) in
-    let o = offset-in (c .before .before .before .before .args .m) (c .before .before .before .before .args .t .p) (c .before .before .before .before .args .j) l in
+    let o = offset-within (c .before .before .before .before .args .m) (c .before .before .before .before .args .t .p) (c .before .before .before .before .args .j) l in
     let g = c .before .anchor-offset .ensures in
     omega arith
 

@@ -1,13 +1,13 @@
--- `ends::anchor::find_anchor` meets its contract: one law of specs/AnchorSearchLaws.antt for each return. Assumes nothing.
+-- `anchors::find_anchor` meets its contract: one law of specs/AnchorSearchLaws.antt for each return. Assumes nothing.
 use mathlib.Core.Path.{_≡_, sym, _∙_}
 use mathlib.Core.Bool.{true}
 use borrow.Author.Tests.{not-true, not-false}
 use Rattle.strings.specs.StringRule.{stringRule}
-use Rattle.ends.specs.AnchorSearch.{anchorSettings, anchorRange}
-use Rattle.ends.specs.AnchorSearchLaws.{bad-setting, bad-copy, bad-anchor, out-of-range, tested-ready, answers-at, answers-nowhere}
+use Rattle.anchors.specs.AnchorSearch.{anchorSettings, anchorRange}
+use Rattle.anchors.specs.AnchorSearchLaws.{bad-setting, bad-copy, bad-anchor, out-of-range, tested-ready, answers-at, answers-nowhere}
 use borrow.Author.Needs.{needs}
-use Rattle.ends.proofs.anchor.find_anchor.Statement.{statement}
-use Rattle.ends.proofs.anchor.find_anchor.Tie as tie
+use Rattle.anchors.proofs.find_anchor.Statement.{statement}
+use Rattle.anchors.proofs.find_anchor.Tie as tie
 
 -- what holds behind each test
 settings-kept : (c : tie.Else1) → let args = c .before .before .before .before .args in anchorSettings (args .m) (args .k) ≡ true

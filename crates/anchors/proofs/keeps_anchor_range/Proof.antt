@@ -1,9 +1,9 @@
--- `ends::anchor::keeps_anchor_range` meets its contract. Assumes nothing.
+-- `anchors::keeps_anchor_range` meets its contract. Assumes nothing.
 use borrow.Author.Tests.{not-true, not-false}
 use borrow.Author.Needs.{needs}
-use Rattle.ends.specs.AnchorSearchLaws.{range-piece, range-length-high, range-offset}
-use Rattle.ends.proofs.anchor.keeps_anchor_range.Statement.{statement}
-use Rattle.ends.proofs.anchor.keeps_anchor_range.Tie as tie
+use Rattle.anchors.specs.AnchorSearchLaws.{range-piece, range-length-high, range-offset}
+use Rattle.anchors.proofs.keeps_anchor_range.Statement.{statement}
+use Rattle.anchors.proofs.keeps_anchor_range.Tie as tie
 
 ends-by-requires : tie.Need-ends-by-requires
 ends-by-requires c κs = search needs

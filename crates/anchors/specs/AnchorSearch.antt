@@ -11,10 +11,10 @@ use Rattle.strings.specs.Refusals.{refusalNumber}
 use Rattle.codes.specs.Entries.{Answer, refusal, value, unless}
 use Rattle.protocol.specs.Limits.{between}
 use Rattle.protocol.specs.Anchors.{place}
-use Rattle.ends.specs.declared.anchor.Place.{Place}
-use Rattle.ends.specs.declared.anchor.Place.the-variants.{At, Nowhere}
-use Rattle.ends.specs.declared.anchor.AnchorAnswer.{AnchorAnswer}
-use Rattle.ends.specs.declared.anchor.AnchorAnswer.the-variants.{Placed, NoPlace, Refused}
+use Rattle.anchors.specs.declared.Place.{Place}
+use Rattle.anchors.specs.declared.Place.the-variants.{At, Nowhere}
+use Rattle.anchors.specs.declared.AnchorAnswer.{AnchorAnswer}
+use Rattle.anchors.specs.declared.AnchorAnswer.the-variants.{Placed, NoPlace, Refused}
 
 -- ---- the search inside the rebuilder's call
 -- both ranges are there, and all numbers are within their limits; the anchor may stand in a message
@@ -34,9 +34,9 @@ placeIn none = Nowhere
 placeIn (some r) = At r
 
 -- ---- the places that the code looks at; AnchorSearchLaws says that all others of 0 to q - m are too far
--- one past the last place with 2r + p ≤ due + reach and room for m bits, where due is 2s + q
-unfoldable pub windowEnd : (q m p due reach : ℕ) → ℕ
-windowEnd q m p due reach = min (q + 1 - m) ((due + reach + 2 - p) / 2)
+-- one past the last place with 2r + p < due + least and room for m bits, where due is 2s + q
+unfoldable pub windowEnd : (q m p due least : ℕ) → ℕ
+windowEnd q m p due least = min (q + 1 - m) ((due + least + 1 - p) / 2)
 
 -- the first place with due ≤ 2r + p + reach, or end
 unfoldable pub windowStart : (p due reach end : ℕ) → ℕ
@@ -46,7 +46,7 @@ windowStart p due reach end = min end ((due + 1 - (p + reach)) / 2)
 pub record Small (p due reach : ℕ) : Type 0 where
   pub piece : p ≤ 65536
   pub centre : due ≤ 196608
-  pub width : reach ≤ 1048576
+  pub width : reach ≤ 1048577
 
 -- ---- the search as a host calls it, on the copy y of that many bits and a string a as the anchor
 -- anchor m 8 to 64 bits; window factor k 1 to 8

@@ -1,10 +1,10 @@
--- `ends::anchor::isqrt` meets its contract. The invariant: r squared is at most q. Assumes nothing.
+-- `anchors::isqrt` meets its contract. The invariant: r squared is at most q. Assumes nothing.
 use Prim.Native.Nat.{_+_, _-_, _*_, _≤_}
 use native.Mathlib.Omega.{arith}
 use borrow.Author.Needs.{needs}
-use Rattle.ends.specs.AnchorSearchLaws.{root-is, square-grows, square-fits}
-use Rattle.ends.proofs.anchor.isqrt.Statement.{statement}
-use Rattle.ends.proofs.anchor.isqrt.Tie as tie
+use Rattle.anchors.specs.AnchorSearchLaws.{root-is, square-grows, square-fits}
+use Rattle.anchors.proofs.isqrt.Statement.{statement}
+use Rattle.anchors.proofs.isqrt.Tie as tie
 
 abbrev Inv-loop : tie.InvT-loop
 Inv-loop q r₀ r = (r * r ≤ q) × (r ≤ q)

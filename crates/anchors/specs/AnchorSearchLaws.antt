@@ -19,9 +19,9 @@ use Rattle.strings.specs.Tests.{true-false, and-left, and-right}
 use Rattle.codes.specs.Entries.{refusal, value}
 use Rattle.protocol.specs.Anchors.{isqrt, distance, away, part, fits, Best, place}
 use Rattle.protocol.specs.AnchorLaws.{place-best}
-use Rattle.ends.specs.declared.anchor.Place.{Place}
-use Rattle.ends.specs.declared.anchor.Place.the-variants.{At, Nowhere}
-use Rattle.ends.specs.AnchorSearch.{Ready, placeIn, windowStart, windowEnd, anchorSettings, anchorRange, anchorSearch}
+use Rattle.anchors.specs.declared.Place.{Place}
+use Rattle.anchors.specs.declared.Place.the-variants.{At, Nowhere}
+use Rattle.anchors.specs.AnchorSearch.{Ready, placeIn, windowStart, windowEnd, anchorSettings, anchorRange, anchorSearch}
 
 -- ---- the square root: r is the root of n
 abbrev pub Root : ℕ → ℕ → Type 0
@@ -119,22 +119,19 @@ module _ (f : ℕ → Bool) (d : ℕ → ℕ) (reach : ℕ) where
       go k h i (yes z) = rw z (le-refl (d r), λ w. le-refl r)
       go k h i (no z) = let a = s .rest k (omega arith) i .0 in (omega arith, λ w. absurd (omega arith))
 
+  -- no place from r to n - 1 is nearer, and none as near stands in front of the best
+  seen-end : (r n least best : ℕ) → r ≤ n → ((k : ℕ) → r ≤ k → k < n → f k ≡ true → (least ≤ d k) × (least ≡ d k → best ≤ k)) → Seen f d reach r least best → Seen f d reach n least best
+  seen-end r n least best l far s = record {
+    bound = s .bound;
+    hit = λ h. let a = s .hit h in ((let a0 = a .0 in omega arith), a .1, a .2);
+    rest = λ k h e. go k h e (decLt k r);
+  }
+    where
+      go : (k : ℕ) → k < n → f k ≡ true → Dec (k < r) → (least ≤ d k) × (least ≡ d k → best ≤ k)
+      go k h e (yes z) = s .rest k z e
+      go k h e (no z) = far k (omega arith) h e
+
   module _ (near : (k : ℕ) → f k ≡ true → d k ≤ reach) where
-    seen-far : (r least best : ℕ) → least ≤ d r → Seen f d reach r least best → Seen f d reach (r + 1) least best
-    seen-far r least best l s = seen-on r least best (λ e. (l, λ i. let a = s .hit (let n = near r e in omega arith) .0 in omega arith)) s
-
-    -- all places from r to n - 1 are too far
-    seen-end : (r n least best : ℕ) → r ≤ n → ((k : ℕ) → r ≤ k → k < n → reach < d k) → Seen f d reach r least best → Seen f d reach n least best
-    seen-end r n least best l far s = record {
-      bound = s .bound;
-      hit = λ h. let a = s .hit h in ((let a0 = a .0 in omega arith), a .1, a .2);
-      rest = λ k h e. go k h e (decLt k r);
-    }
-      where
-        go : (k : ℕ) → k < n → f k ≡ true → Dec (k < r) → (least ≤ d k) × (least ≡ d k → best ≤ k)
-        go k h e (yes z) = s .rest k z e
-        go k h e (no z) = let a = far k (omega arith) h in let b = near k e in absurd (omega arith)
-
     -- what was seen of all places is what is best of them
     seen-at : (n least best : ℕ) → Seen f d reach n least best → least ≤ reach → (o : Option ℕ) → Best f d 0 n o → o ≡ some best
     seen-at n least best s l none b = absurd (b best (omega arith) (let a = s .hit l .0 in omega arith) (s .hit l .1))
@@ -160,18 +157,33 @@ module _ (f : ℕ → Bool) (d : ℕ → ℕ) (reach : ℕ) where
         absurd (omega arith)
 
 -- ---- the window: places in front of it and behind it are too far
-module _ (q m p s reach : ℕ) where
-  pub end-most : windowEnd q m p (2 * s + q) reach ≤ q + 1 - m
+module _ (q m p s : ℕ) where
+  pub end-most : (least : ℕ) → windowEnd q m p (2 * s + q) least ≤ q + 1 - m
   unfolding windowEnd
-  end-most = omega arith
+  end-most least = omega arith
 
-  end-far : (k : ℕ) → windowEnd q m p (2 * s + q) reach ≤ k → k < q + 1 - m → reach < away p q s k
+  end-far : (least k : ℕ) → windowEnd q m p (2 * s + q) least ≤ k → k < q + 1 - m → 2 * s + q + least ≤ 2 * k + p
   unfolding windowEnd
-  end-far k h l = omega arith
+  end-far least k h l = omega arith
 
+  -- a place in the window, and not too far to the left, is nearer
+  pub end-near : (least k d : ℕ) → k < windowEnd q m p (2 * s + q) least → 2 * s + q < 2 * k + p + least → d ≡ distance (2 * k + p) (2 * s + q) → d < least
+  unfolding windowEnd
+  end-near least k d h l e = omega arith
+
+  -- a nearer place leaves no more of the window
+  pub end-less : (least d : ℕ) → d < least → windowEnd q m p (2 * s + q) d ≤ windowEnd q m p (2 * s + q) least
+  unfolding windowEnd
+  end-less least d h = omega arith
+
+module _ (q p s reach : ℕ) where
   pub start-most : (end : ℕ) → windowStart p (2 * s + q) reach end ≤ end
   unfolding windowStart
   start-most end = omega arith
+
+  pub start-near : (end : ℕ) → windowStart p (2 * s + q) reach end < end → 2 * s + q < 2 * windowStart p (2 * s + q) reach end + p + (reach + 1)
+  unfolding windowStart
+  start-near end h = omega arith
 
   start-far : (end k : ℕ) → k < windowStart p (2 * s + q) reach end → reach < away p q s k
   unfolding windowStart
@@ -229,13 +241,10 @@ module _ (y : List ℕ) (start q p s m k : ℕ) (a : List ℕ) (at : ℕ) where
   near-fits r e l = rw (e, range-length y start q) (le-leb (away p q s r) (2 * k * isqrt q) l)
 
   pub search-start : (end : ℕ) → Searched y start q p s m k a at (windowStart p (2 * s + q) (2 * k * isqrt q) end) (2 * k * isqrt q + 1) 0
-  search-start end = seen-none _ _ _ (windowStart p (2 * s + q) (2 * k * isqrt q) end) (start-far q m p s (2 * k * isqrt q) end)
+  search-start end = seen-none _ _ _ (windowStart p (2 * s + q) (2 * k * isqrt q) end) (start-far q p s (2 * k * isqrt q) end)
 
-  -- a place that is no nearer, one whose bits differ, and one that is the best so far
+  -- a place whose bits differ, and one that is the best so far
   module _ (r least best : ℕ) (h : Searched y start q p s m k a at r least best) where
-    pub search-far : (d : ℕ) → d ≡ distance (2 * r + p) (2 * s + q) → least ≤ d → Searched y start q p s m k a at (r + 1) least best
-    search-far d e l = seen-far _ _ _ fits-near r least best (rw (← e) l) h
-
     module _ (room : r + m ≤ q) where
       pub search-differs : (j : ℕ) (x z : Bool) → j < m → x ≡ bitAt y (start + (r + j)) → z ≡ bitAt a (at + j) → not (Bool·beq x z) ≡ true → Searched y start q p s m k a at (r + 1) least best
       search-differs j x z l e f t =
@@ -252,10 +261,15 @@ module _ (y : List ℕ) (start q p s m k : ℕ) (a : List ℕ) (at : ℕ) where
       subst (λ (n : ℕ). Best (fits m k p s (range y start q) (range a at m)) (away p n s) 0 (n + 1 - m) (place m k p s (range y start q) (range a at m))) (range-length y start q)
       (place-best m k p s (range y start q) (range a at m))
 
-  module _ (least best : ℕ) (h : Searched y start q p s m k a at (windowEnd q m p (2 * s + q) (2 * k * isqrt q)) least best) where
+  module _ (r least best : ℕ) (h : Searched y start q p s m k a at r least best) (few : r ≤ q + 1 - m) (done : windowEnd q m p (2 * s + q) least ≤ r) where
     search-end : Searched y start q p s m k a at (q + 1 - m) least best
-    search-end =
-        seen-end _ _ _ fits-near (windowEnd q m p (2 * s + q) (2 * k * isqrt q)) (q + 1 - m) least best (end-most q m p s (2 * k * isqrt q)) (end-far q m p s (2 * k * isqrt q)) h
+    search-end = seen-end _ _ _ r (q + 1 - m) least best few passed h
+      where
+        passed : (i : ℕ) → r ≤ i → i < q + 1 - m → fits m k p s (range y start q) (range a at m) i ≡ true → (least ≤ away p q s i) × (least ≡ away p q s i → best ≤ i)
+        passed i g l t =
+            let f = end-far q m p s least i (omega arith) l in
+            let n = fits-near i t in
+            (omega arith, λ e. let b = h .hit (omega arith) .2 in omega arith)
 
     pub search-at : least ≤ 2 * k * isqrt q → At best ≡ placeIn (place m k p s (range y start q) (range a at m))
     search-at l = sym (ap placeIn (seen-at _ _ _ fits-near (q + 1 - m) least best search-end l (place m k p s (range y start q) (range a at m)) best-of))

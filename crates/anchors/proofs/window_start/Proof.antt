@@ -1,8 +1,8 @@
--- `ends::anchor::window_start` meets its contract. Assumes nothing.
+-- `anchors::window_start` meets its contract. Assumes nothing.
 use borrow.Author.Needs.{needs}
-use Rattle.ends.specs.AnchorSearch.{windowStart}
-use Rattle.ends.proofs.anchor.window_start.Statement.{statement}
-use Rattle.ends.proofs.anchor.window_start.Tie as tie
+use Rattle.anchors.specs.AnchorSearch.{windowStart}
+use Rattle.anchors.proofs.window_start.Statement.{statement}
+use Rattle.anchors.proofs.window_start.Tie as tie
 
 add-saturating-sub : tie.Need-add-saturating-sub
 add-saturating-sub c = search needs

@@ -1,7 +1,7 @@
--- `ends::anchor::keeps_anchor_settings` meets its contract. Assumes nothing.
-use Rattle.ends.specs.AnchorSearchLaws.{settings-m-low, settings-m-high, settings-k-low, settings-k-high}
-use Rattle.ends.proofs.anchor.keeps_anchor_settings.Statement.{statement}
-use Rattle.ends.proofs.anchor.keeps_anchor_settings.Tie as tie
+-- `anchors::keeps_anchor_settings` meets its contract. Assumes nothing.
+use Rattle.anchors.specs.AnchorSearchLaws.{settings-m-low, settings-m-high, settings-k-low, settings-k-high}
+use Rattle.anchors.proofs.keeps_anchor_settings.Statement.{statement}
+use Rattle.anchors.proofs.keeps_anchor_settings.Tie as tie
 
 returns : tie.Need-returns
 returns c = let args = c .before .args in settings-m-low (args .m) (args .k) (c .if1 .taken)

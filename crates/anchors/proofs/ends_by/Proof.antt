@@ -1,7 +1,7 @@
--- `ends::anchor::ends_by` meets its contract. Assumes nothing.
-use Rattle.ends.specs.AnchorSearchLaws.{ends-late, ends-by-rest}
-use Rattle.ends.proofs.anchor.ends_by.Statement.{statement}
-use Rattle.ends.proofs.anchor.ends_by.Tie as tie
+-- `anchors::ends_by` meets its contract. Assumes nothing.
+use Rattle.anchors.specs.AnchorSearchLaws.{ends-late, ends-by-rest}
+use Rattle.anchors.proofs.ends_by.Statement.{statement}
+use Rattle.anchors.proofs.ends_by.Tie as tie
 
 returns : tie.Need-returns
 returns c = let args = c .before .args in ends-late (args .start) (args .len) (args .end) (c .if1 .taken)

@@ -4,7 +4,7 @@ ghost use Prim.Native.Nat.{_+_, _-_, _≤_, min};
 ghost use lib.Dec.{leb};
 ghost use Rattle.strings.specs.Bits.{range};
 ghost use Rattle.protocol.specs.Anchors.{isqrt as isqrtOf, distance as distanceOf, place};
-ghost use Rattle.ends.specs.AnchorSearch.{Ready, placeIn, Small, windowStart, windowEnd, anchorSettings, anchorRange, saidAnchor, anchorSearch};
+ghost use Rattle.anchors.specs.AnchorSearch.{Ready, placeIn, Small, windowStart, windowEnd, anchorSettings, anchorRange, saidAnchor, anchorSearch};
 use strings::Refusal;
 
 // Where an anchor is placed.
@@ -21,7 +21,7 @@ pub enum AnchorAnswer {
 }
 
 // The largest number whose square is at most q.
-pub fn isqrt(q: usize) -> usize
+fn isqrt(q: usize) -> usize
     requires { ⌜ q ≤ 65536 ⌝ }
     ensures { λ r. ⌜ r ≡ isqrtOf q ⌝ }
 {
@@ -62,14 +62,14 @@ fn smaller(a: usize, b: usize) -> usize
     b
 }
 
-// One past the last place that is near enough and leaves room for m bits; due is 2s + q.
-fn window_end(q: usize, m: usize, p: usize, due: usize, reach: usize) -> usize
+// One past the last place that is not too far to the right, 2r + p below due + least, and leaves room for m bits; due is 2s + q.
+fn window_end(q: usize, m: usize, p: usize, due: usize, least: usize) -> usize
     requires { ⌜ q ≤ 65536 ⌝ }
-    requires { ⌜ Small p due reach ⌝ }
-    ensures { λ r. ⌜ r ≡ windowEnd q m p due reach ⌝ }
+    requires { ⌜ Small p due least ⌝ }
+    ensures { λ r. ⌜ r ≡ windowEnd q m p due least ⌝ }
 {
     let places = saturating_sub(q + 1, m);
-    let near = saturating_sub(due + reach + 2, p);
+    let near = saturating_sub(due + least + 1, p);
     smaller(places, near / 2)
 }
 
@@ -99,19 +99,14 @@ pub fn place_anchor(
 {
     let due = 2 * s + q;
     let reach = 2 * k * isqrt(q);
-    let end = window_end(q, m, p, due, reach);
-    // Until a place is found, least is one more than any distance in the window.
+    // One more than any distance that is still of use: at first than the reach, then than those of places nearer than the best.
     let mut least = reach + 1;
     let mut best: usize = 0;
+    let mut end = window_end(q, m, p, due, least);
     let mut next = window_start(p, due, reach, end);
-    // Distance first: only a place that would be nearer than the best so far is compared.
     'places: while next < end {
         let r = next;
         next += 1;
-        let d = distance(2 * r + p, due);
-        if least <= d {
-            continue 'places;
-        }
         let mut j: usize = 0;
         while j < m {
             if strings::get_bit(y, start + (r + j)) != strings::get_bit(a, at + j) {
@@ -119,8 +114,9 @@ pub fn place_anchor(
             }
             j += 1;
         }
-        least = d;
         best = r;
+        least = distance(2 * r + p, due);
+        end = window_end(q, m, p, due, least);
     }
     if reach < least {
         return Place::Nowhere;

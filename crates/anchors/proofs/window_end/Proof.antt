@@ -1,8 +1,8 @@
--- `ends::anchor::window_end` meets its contract. Assumes nothing.
+-- `anchors::window_end` meets its contract. Assumes nothing.
 use borrow.Author.Needs.{needs}
-use Rattle.ends.specs.AnchorSearch.{windowEnd}
-use Rattle.ends.proofs.anchor.window_end.Statement.{statement}
-use Rattle.ends.proofs.anchor.window_end.Tie as tie
+use Rattle.anchors.specs.AnchorSearch.{windowEnd}
+use Rattle.anchors.proofs.window_end.Statement.{statement}
+use Rattle.anchors.proofs.window_end.Tie as tie
 
 add-saturating-sub : tie.Need-add-saturating-sub
 add-saturating-sub c = search needs
