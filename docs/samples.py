@@ -2,6 +2,8 @@
 """Works out crates/samples/stdout from document 01, by brute force over all strings; nothing here follows the code."""
 from itertools import product
 
+from runs import place, run
+
 # published outputs of xorshift with shifts 13, 17, 5 from the seed 2463534242
 PUBLISHED = [723471715, 2497366906, 2064144800, 2008045182, 3532304609, 374114282, 1350636274, 691148861, 746858951, 2653896249]
 
@@ -66,6 +68,16 @@ for n in range(9):
         blank = lambda words: "".join(" " + word for word in words)
         print(" %s: %d;%s;%s" % (bits or "empty", syndrome(bits), blank(more), blank(less)))
 line("put-ins:", put_ins)
+for title, x, y in [("63 ones, copy of 80 zeros:", "1" * 63, "0" * 80), ("64 ones, copy of 80 zeros:", "1" * 64, "0" * 80), ("100, copy 0000:", "100", "0000")]:
+    line(title)
+    run(8, 8, 1, 1, 100, x, y, print)
+ones = ["0" * r + "1" * 8 + "0" * (58 - r) for r in range(59)]
+places = [place("1" * 8, 28, 64, copy, 1) for copy in ones]
+assert [r for r in places if r is not None] == list(range(21, 38))
+line("eight ones at 0 to 58:", *["none" if r is None else r for r in places])
+tie = place("01010101", 28, 64, "1" * 28 + "0101010101" + "1" * 28, 1)
+assert tie == 28
+line("01010101 at 28 and 30:", tie)
 line("hash with h 7, h 33, key 0, a spare bit: R 1 R 1 R 1 R 2")
 line("syndrome with a spare bit, a byte too many, one too few: R 2 R 2 R 2")
 line("repair of 1011 to 4 bits, to 6, to 5 with syndrome 5, with syndrome 6: R 8 R 8 done R 8")

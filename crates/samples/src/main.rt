@@ -1,10 +1,12 @@
 // Prints samples on standard output, which the gate compares with the stored stdout: outputs of Marsaglia's xorshift, rows and hashes,
-// the syndrome and every repair of each string of up to 8 bits, and calls that are turned down. The stored file is worked out from
-// document 01 by another program (docs/samples.py).
+// the syndrome and every repair of each string of up to 8 bits, runs and anchor places at the edges that 01 names, and calls that are
+// turned down. The stored file is worked out from document 01 by another program (docs/samples.py).
 ghost use Prim.Native.Nat.{_≤_, _<_};
+use anchors::AnchorAnswer;
 use codes::NumberAnswer;
 use codes::RepairAnswer;
 use libc::STDOUT_FILENO;
+use protocol::Settings;
 use strings::Refusal;
 
 fn print(text: &[u8]) {
@@ -210,6 +212,72 @@ fn print_refusals() {
     print(b"\n");
 }
 
+// Runs with m = h = 8: a piece of 63 bits goes as bits, one of 64 gets anchors at 28, 36 and 20 first; 0000 cannot be repaired to 100.
+fn print_runs() {
+    let settings = Settings::new(8, 8, 1, 1, 100);
+    let zeros = [0u8; 10];
+    print(b"63 ones, copy of 80 zeros:\n");
+    session::run(
+        settings,
+        b"\xff\xff\xff\xff\xff\xff\xff\xfe",
+        63,
+        &zeros,
+        80,
+    );
+    print(b"64 ones, copy of 80 zeros:\n");
+    session::run(
+        settings,
+        b"\xff\xff\xff\xff\xff\xff\xff\xff",
+        64,
+        &zeros,
+        80,
+    );
+    print(b"100, copy 0000:\n");
+    session::run(settings, b"\x80", 3, b"\x00", 4);
+}
+
+fn print_place(answer: AnchorAnswer) {
+    match answer {
+        AnchorAnswer::Placed(r) => print_number(r as u64),
+        AnchorAnswer::NoPlace => print(b" none"),
+        AnchorAnswer::Refused(e) => print_refusal(e),
+    }
+}
+
+// The place of eight ones that stand at bit r of 66 zeros, as an anchor at offset 28 of 64 bits, with k = 1.
+fn print_place_at(r: u32)
+    requires { ⌜ r ≤ 58 ⌝ }
+{
+    let mut y = [0u8; 9];
+    let at = (r / 8) as usize;
+    y[at] = 255u8 >> (r % 8);
+    y[at + 1] = ((65280u32 >> (r % 8)) % 256) as u8;
+    print_place(anchors::find_anchor(&y, 66, 0, 66, 64, 28, 8, 1, b"\xff"));
+}
+
+// Every place in turn; then 01010101 that stands at 28 and at 30, equally far off.
+fn print_places() {
+    print(b"eight ones at 0 to 58:");
+    let mut r: u32 = 0;
+    while r <= 58 {
+        print_place_at(r);
+        r += 1;
+    }
+    print(b"\n01010101 at 28 and 30:");
+    print_place(anchors::find_anchor(
+        b"\xff\xff\xff\xf5\x57\xff\xff\xff\xc0",
+        66,
+        0,
+        66,
+        64,
+        28,
+        8,
+        1,
+        b"\x55",
+    ));
+    print(b"\n");
+}
+
 fn main() {
     print(b"xorshift from 2463534242:");
     print_rows(2463534242, 10);
@@ -217,5 +285,7 @@ fn main() {
     print_rows(1, 9);
     print_hashes();
     print_codes();
+    print_runs();
+    print_places();
     print_refusals();
 }
