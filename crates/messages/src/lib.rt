@@ -16,6 +16,12 @@ ghost use Rattle.messages.specs.Answers.{sizeAnswer, hashAnswer, syndrom
 ghost use Rattle.messages.specs.Writing.{leaves, putFront};
 use strings::Refusal;
 
+mod reading;
+
+pub use reading::Reader;
+pub use reading::read_next;
+pub use reading::reader_at;
+
 // The kinds of 01, "Messages"; specs/Kinds.antt has their numbers, 0 to 3.
 pub enum Kind {
     Open,
@@ -122,12 +128,12 @@ pub fn read_number(s: &[u8], at: usize) -> NumberRead
     read_fifth(s, i, v)
 }
 
-// The next number of a message from position `at` on. Questions and answers read every number through this function, so that a
-// reader that holds the message and its position can go under it.
+// The next number of a message from position `at` on, read through a reader. Questions and answers read every number through this
+// function; its parameters are plain, so the functions above it need no proof by hand.
 fn next_number(s: &[u8], at: usize) -> NumberRead
     ensures { λ r. ⌜ r ≡ numberAt (now (s .entry)) at ⌝ }
 {
-    read_number(s, at)
+    read_next(reader_at(s, at))
 }
 
 // How many bytes a number takes.
