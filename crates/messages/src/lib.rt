@@ -137,7 +137,7 @@ fn next_number(s: &[u8], at: usize) -> NumberRead
 }
 
 // How many bytes a number takes.
-pub fn number_size(v: u32) -> usize
+fn number_size(v: u32) -> usize
     ensures { λ r. ⌜ r ≡ length (number v) ⌝ }
 {
     if v < 128 {
@@ -156,7 +156,7 @@ pub fn number_size(v: u32) -> usize
 }
 
 // A number is written from index `at` on; the answer is the index behind it.
-pub fn put_number(buf: &mut [u8], at: usize, v: u32) -> usize
+fn put_number(buf: &mut [u8], at: usize, v: u32) -> usize
     requires { ⌜ at + length (number v) ≤ length (now buf) ⌝ }
     ensures { λ r. ⌜ (r ≡ at + length (number v)) × (now (buf .exit) ≡ sets (now (buf .entry)) at (number v)) ⌝ }
 {
