@@ -2,6 +2,7 @@
 mod anchor;
 mod holder;
 mod rebuilder;
+mod sheet;
 mod sound;
 mod state;
 
@@ -21,6 +22,10 @@ pub use rebuilder::StartOut;
 pub use rebuilder::how_number;
 pub use rebuilder::rebuilder_call;
 pub use rebuilder::rebuilder_start;
+pub use sheet::apply_change;
+pub use sheet::clear_rows;
+pub use sheet::rebuilder_call_on_sheet;
+pub use sheet::write_row;
 pub use sound::holder_is_sound;
 pub use sound::rebuilder_is_sound;
 pub use state::Plan;
