@@ -1,16 +1,13 @@
--- Laws of the rebuilder's start and call on bytes: its returns, that a change of the sheet lies in it, that results are small.
+-- Laws of the rebuilder's start and call on bytes: its returns, that a change of the sheet lies in its bytes, that results are small.
 use mathlib.Core.Path.{_≡_, refl, sym, ap, _∙_}
-use mathlib.Core.Bool.{true, false, _&&_}
+use mathlib.Core.Bool.{true, false}
 use mathlib.Core.List.{List, [], _∷_, _++_, append-nil}
 use mathlib.Core.Option.{Option, none, some}
-use Prim.Native.Nat.{ℕ, zero, suc, _+_, _-_, _*_, _/_, _≤_, _<_}
+use Prim.Native.Nat.{ℕ, _+_, _*_, _/_, _≤_, _<_}
 use native.Mathlib.Omega.{arith}
 use lib.ListN.{length, drop, length-append, drop-of-length-le}
-use lib.Dec.{leb}
-use borrow.Author.Tests.{le-leb, lt-leb, leb-true, eq-eqb, ne-eqb}
-use Rattle.strings.specs.Bits.{bytesFor, range}
+use borrow.Author.Tests.{le-leb, lt-leb, eq-eqb, ne-eqb}
 use Rattle.strings.specs.StringRule.{stringRule}
-use Rattle.strings.specs.Tests.{and-left, and-right}
 use Rattle.strings.specs.Refusals.{refusalNumber}
 use Rattle.strings.specs.declared.Refusal.{Refusal}
 use Rattle.codes.specs.Entries.{refusal}
@@ -22,28 +19,24 @@ use Rattle.messages.specs.Kinds.{kindNumber}
 use Rattle.messages.specs.KindLaws.{kind-size}
 use Rattle.messages.specs.Questions.{questionKind, questionBytes}
 use Rattle.messages.specs.QuestionLaws.{fieldBytes, question-parts}
-use Rattle.messages.specs.Answers.{Answer}
 use Rattle.protocol.specs.declared.Settings.{Settings}
-use Rattle.protocol.specs.declared.Piece.{Piece}
 use Rattle.protocol.specs.declared.Rebuilder.{Rebuilder}
 use Rattle.protocol.specs.Limits.{withinLimits}
-use Rattle.protocol.specs.Segments.{Effect, settles, stays, splits, effect}
-use Rattle.protocol.specs.States.{top, held, planned}
-use Rattle.protocol.specs.Soundness.{rowsLeft}
-use Rattle.protocol.specs.RebuilderCall.{Started, startDeclines, starts, rebuilderStart, Taken, refuses, takes, Step, Rooms, rebuilderCall, roomFor, bitsKnown, writtenQuestion, numberedStage, effectStep, openingStep, wholeStep, stepOf, stringAfter}
-use Rattle.protocol.specs.Steps.{step-opening, step-pieces, step-whole}
-use Rattle.protocol.specs.SoundSteps.{PhaseOf, isOpening, isPieces, isWhole, phase-of, sound-is}
+use Rattle.protocol.specs.States.{planned}
+use Rattle.protocol.specs.RebuilderCall.{Started, startDeclines, starts, rebuilderStart, Taken, refuses, takes, Step, Rooms, rebuilderCall, writtenQuestion, stepOf, stringAfter}
 use Rattle.protocol.specs.Asking.{TakenCall, taken-call}
 use Rattle.protocol.specs.Delivery.{started-is}
+use Rattle.protocol.specs.SheetRoom.{rowsNeeded}
 use Rattle.ends.specs.declared.rebuilder.StartAnswer.the-variants.{Begun, NotBegun}
 use Rattle.ends.specs.declared.rebuilder.StartOut.{StartOut}
 use Rattle.ends.specs.declared.rebuilder.RebuilderAnswer.{RebuilderAnswer}
 use Rattle.ends.specs.declared.rebuilder.RebuilderAnswer.the-variants.{Asks, Finished, Refused}
 use Rattle.ends.specs.declared.rebuilder.RebuilderOut.{RebuilderOut}
 use Rattle.ends.specs.RebuilderCode.{StartSaid, saidStart, leavesStart, RebuilderSaid, saidRebuilder, leavesRebuilder, nextAnswer}
+use Rattle.ends.specs.SheetCallLaws.{change-fits}
 use Rattle.cabi.specs.Layout.{rebuilderBytes, rebuilderOf}
 use Rattle.cabi.specs.LayoutLaws.{length-rebuilder}
-use Rattle.cabi.specs.Sheet.{sheetBytesAfter, rowsNeeded}
+use Rattle.cabi.specs.Sheet.{sheetBytesAfter}
 use Rattle.cabi.specs.Packing.{packed}
 use Rattle.cabi.specs.Calls.{atFront, startOnBytes, startLeft, rebuilderOnBytes, roomsIn, rebuilderLeft}
 
@@ -69,54 +62,11 @@ written-most : (o : Option Question) → length (writtenQuestion o) ≤ 16
 written-most none = omega arith
 written-most (some q) = question-most q
 
--- ---- a taken call's change of the sheet lies in the sheet
--- waiting pieces leave room for a row
-rows-some : (m w : ℕ) (l : List Piece) → 0 < w → 1 ≤ rowsLeft m (held w l)
-unfolding rowsLeft
-rows-some m zero l h = absurd (omega arith)
-rows-some m (suc w) l h = omega arith
-
-effect-rows : (st : Rebuilder) (size : ℕ) (e : Effect) → rowsNeeded (effectStep st size e .sheet) ≤ st .rows + 1
-unfolding effectStep
-effect-rows st size (settles w b) = omega arith
-effect-rows st size (stays t) = omega arith
-effect-rows st size (splits s r b) = omega arith
-
-known-later : (st : Rebuilder) (a : Answer) → 0 < st .phase → bitsKnown st a ≡ st .n
-known-later st a h = rw (ne-eqb (st .phase) 0 (λ z. omega arith)) refl
-
-module _ (st : Rebuilder) (y : List ℕ) (bits : ℕ) (msg : List ℕ) (rooms : Rooms) (step : Step) (next : List ℕ) (e : rebuilderCall st y bits msg rooms ≡ takes step next) where
-  sheet-room : (n : ℕ) → roomFor st n rooms ≡ true → 2 * (n / st .settings .m) + 1 ≤ rooms .sheet
-  sheet-room n r =
-      leb-true (2 * (n / st .settings .m) + 1) (rooms .sheet)
-      (and-left (leb (2 * (n / st .settings .m) + 1) (rooms .sheet)) (leb 8 (rooms .question))
-      (and-right (leb (bytesFor n) (rooms .string)) (leb (2 * (n / st .settings .m) + 1) (rooms .sheet) && leb 8 (rooms .question)) r))
-
-  pub taken-rows : rowsNeeded (step .sheet) ≤ rooms .sheet
-  taken-rows = rw (k .steps) (go (phase-of st (k .q) (sound-is st (k .sound-before) .1) (k .asked)))
-    where
-      k : TakenCall st y msg rooms step next
-      k = taken-call st y bits msg rooms step next e
-
-      later : 0 < st .phase → 2 * (st .n / st .settings .m) + 1 ≤ rooms .sheet
-      later h = sheet-room (st .n) (rw (known-later st (k .a) h) at (k .room))
-
-      go : PhaseOf st (k .q) → rowsNeeded (stepOf st y (length msg) (k .a) .sheet) ≤ rooms .sheet
-      go (isOpening p i d) = rw (step-opening st y (length msg) (k .a) p) (unfold openingStep in omega arith)
-      go (isPieces p i w d) =
-          let f : Effect = effect (st .settings) (k .a) (top st .p) (range y (top st .y) (top st .q)) (numberedStage (st .settings) (top st .p) (top st .q) (st .stage)) in
-          let r = rows-some (st .settings .m) (st .waiting) (st .pieces) w in
-          let t = i .stack .rows in
-          let l = later (omega arith) in
-          let g = effect-rows st (length msg) f in
-          rw (step-pieces st y (length msg) (k .a) p) (omega arith)
-      go (isWhole p i d) =
-          let t = i .stack .rows in
-          let l = later (omega arith) in
-          rw (step-whole st y (length msg) (k .a) (omega arith)) (unfold wholeStep in omega arith)
-
-  pub taken-small : length next ≤ 16
-  taken-small = rw (taken-call st y bits msg rooms step next e .asks) (written-most (planned (stepOf st y (length msg) (taken-call st y bits msg rooms step next e .a) .state)))
+-- as the one that a taken call writes
+pub taken-small : (st : Rebuilder) (y : List ℕ) (bits : ℕ) (msg : List ℕ) (rooms : Rooms) (step : Step) (next : List ℕ) → rebuilderCall st y bits msg rooms ≡ takes step next → length next ≤ 16
+taken-small st y bits msg rooms step next e =
+    let k : TakenCall st y msg rooms step next = taken-call st y bits msg rooms step next e in
+    rw (k .asks) (written-most (planned (stepOf st y (length msg) (k .a) .state)))
 
 -- ---- the returns of the call
 module _ (s y : List ℕ) (bits : ℕ) (msg string sheet question : List ℕ) where
@@ -176,11 +126,6 @@ module _ (s string sheet question string′ question′ : List ℕ) (st : Rebuil
       let f : question′ ≡ atFront m question = ap (λ (w : RebuilderSaid). w .question) k in
       rw (a, g, b, h, c, d, f) refl
 
-  said-rows : (t : Taken) (n : ℕ) → saidRebuilder out string′ question′ ≡ leavesRebuilder st string question t
-      → ((j : Step) (m : List ℕ) → t ≡ takes j m → rowsNeeded (j .sheet) ≤ n) → rowsNeeded (out .sheet) ≤ n
-  said-rows (refuses d) n k h = let c = ap (λ (w : RebuilderSaid). rowsNeeded (w .sheet)) k in omega arith
-  said-rows (takes j m) n k h = let c = ap (λ (w : RebuilderSaid). rowsNeeded (w .sheet)) k in let i = h j m refl in omega arith
-
   said-small : (t : Taken) → saidRebuilder out string′ question′ ≡ leavesRebuilder st string question t
       → ((j : Step) (m : List ℕ) → t ≡ takes j m → length m ≤ 16) → askedSize (out .answer) ≤ 16
   said-small (refuses d) k h = let c = ap (λ (w : RebuilderSaid). askedSize (w .answer)) k in omega arith
@@ -191,8 +136,7 @@ module _ (s y : List ℕ) (bits : ℕ) (msg string sheet question string′ ques
     (k : saidRebuilder out string′ question′ ≡ leavesRebuilder st string question (rebuilderCall st y bits msg (roomsIn string sheet question))) where
   pub call-rows : 12 * rowsNeeded (out .sheet) ≤ length sheet
   call-rows =
-      let r = said-rows s string sheet question string′ question′ st out (rebuilderCall st y bits msg (roomsIn string sheet question)) (length sheet / 12) k
-      (λ j m t. taken-rows st y bits msg (roomsIn string sheet question) j m t) in
+      let r = change-fits st y bits msg (roomsIn string sheet question) string question string′ question′ out k in
       omega arith
 
   asked-small : askedSize (out .answer) ≤ 16

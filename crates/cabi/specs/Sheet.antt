@@ -35,9 +35,3 @@ abbrev pub sheetBytesAfter : List ℕ → SheetChange → List ℕ
 sheetBytesAfter s NoRow = s
 sheetBytesAfter s (AddRow i r) = sets s (12 * i) (rowBytes r)
 sheetBytesAfter s (OneRow used r) = sets s 0 (rowsBytes (r ∷ replicate (used - 1) noRow))
-
--- how many rows a sheet needs for a change
-abbrev pub rowsNeeded : SheetChange → ℕ
-rowsNeeded NoRow = 0
-rowsNeeded (AddRow i r) = i + 1
-rowsNeeded (OneRow used r) = used - 1 + 1

@@ -11,9 +11,10 @@ use Rattle.protocol.specs.declared.Row.{Row}
 use Rattle.protocol.specs.declared.SheetChange.{SheetChange}
 use Rattle.protocol.specs.declared.SheetChange.the-variants.{NoRow, AddRow, OneRow}
 use Rattle.protocol.specs.RebuilderCall.{noRow, sheetAfter}
+use Rattle.protocol.specs.SheetRoom.{rowsNeeded}
 use Rattle.cabi.specs.Bytes32.{bytesOf, numberAt}
 use Rattle.cabi.specs.Layout.{allBytes}
-use Rattle.cabi.specs.Sheet.{rowBytes, rowsBytes, rowAt, rowsAt, rowsIn, sheetBytesAfter, rowsNeeded}
+use Rattle.cabi.specs.Sheet.{rowBytes, rowsBytes, rowAt, rowsAt, rowsIn, sheetBytesAfter}
 use Rattle.cabi.specs.StoreLaws.{sets-append}
 use Rattle.cabi.specs.Bytes32Laws.{digits, number-before, number-after, number-in}
 use Rattle.cabi.specs.LayoutLaws.{store-next}

@@ -7,3 +7,5 @@ pub mod HolderCodeLaws
 pub mod RebuilderCode
 pub mod RebuilderCodeLaws
 pub mod RebuilderCallLaws
+pub mod SheetCall
+pub mod SheetCallLaws

@@ -1,6 +1,7 @@
 // The two ends: the highest of the four layers.
 mod holder;
 mod rebuilder;
+mod sheet;
 mod sound;
 mod state;
 
@@ -14,3 +15,7 @@ pub use rebuilder::StartAnswer;
 pub use rebuilder::StartOut;
 pub use rebuilder::rebuilder_call;
 pub use rebuilder::rebuilder_start;
+pub use sheet::apply_change;
+pub use sheet::clear_rows;
+pub use sheet::rebuilder_call_on_sheet;
+pub use sheet::write_row;

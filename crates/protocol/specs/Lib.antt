@@ -23,6 +23,7 @@ pub mod SoundLaws
 pub mod SoundSteps
 pub mod Moves
 pub mod Asking
+pub mod SheetRoom
 pub mod Worlds
 pub mod HolderLaws
 pub mod Delivery

@@ -1,0 +1,24 @@
+-- What the rebuilder's call over a lent sheet of rows gives and leaves.
+use mathlib.Core.List.{List}
+use Prim.Native.Nat.{ℕ}
+use Rattle.protocol.specs.declared.Rebuilder.{Rebuilder}
+use Rattle.protocol.specs.declared.Row.{Row}
+use Rattle.protocol.specs.RebuilderCall.{Taken, refuses, takes, sheetAfter}
+use Rattle.ends.specs.declared.rebuilder.RebuilderOut.{RebuilderOut}
+use Rattle.ends.specs.RebuilderCode.{RebuilderSaid, saidRebuilder, leavesRebuilder}
+
+-- what the call gives and leaves in string and question buffer, and the rows of the sheet
+pub record SheetSaid : Type 0 where
+  pub said : RebuilderSaid
+  pub rows : List Row
+
+abbrev pub saidOnSheet : RebuilderOut → List Row → (string question : List ℕ) → SheetSaid
+saidOnSheet r sh s q = record { said = saidRebuilder r s q; rows = sh }
+
+-- turned down: every row is as it was; taken: the step's change is done to them
+abbrev pub sheetLeft : List Row → Taken → List Row
+sheetLeft sh (refuses e) = sh
+sheetLeft sh (takes k m) = sheetAfter sh (k .sheet)
+
+abbrev pub leavesOnSheet : Rebuilder → List Row → (string question : List ℕ) → Taken → SheetSaid
+leavesOnSheet st sh s q t = record { said = leavesRebuilder st s q t; rows = sheetLeft sh t }
