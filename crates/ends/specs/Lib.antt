@@ -1,7 +1,4 @@
 -- What the functions of the two ends require, and laws for their proofs.
-pub mod StateCode
-pub mod SoundCode
-pub mod SoundLaws
 pub mod HolderCode
 pub mod HolderCodeLaws
 pub mod RebuilderCode

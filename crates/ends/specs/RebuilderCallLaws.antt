@@ -48,8 +48,8 @@ use Rattle.protocol.specs.RebuilderCall.{Taken, refuses, openingStep, wholeStep
 use Rattle.ends.specs.declared.rebuilder.RebuilderOut.{RebuilderOut}
 use Rattle.ends.specs.declared.rebuilder.StartAnswer.the-variants.{Begun, NotBegun}
 use Rattle.ends.specs.declared.rebuilder.StartOut.{StartOut}
-use Rattle.ends.specs.StateCode.{Usable, Counts}
-use Rattle.ends.specs.SoundLaws.{sound-counts}
+use Rattle.states.specs.StateCode.{Usable, Counts}
+use Rattle.states.specs.SoundLaws.{sound-counts}
 use Rattle.ends.specs.RebuilderCode.{OutIs, Acting, OneApart, oneLess, oneMore, RebuilderSaid, saidRebuilder, leavesRebuilder, stepTaken, Opening, WholeDue, BitsDue, dueLength, Due, answerRoom, heardStep, refusal, front, noRebuilder, saidStart, leavesStart}
 use Rattle.ends.specs.RebuilderCodeLaws.{out-said, step-said, size-most, put-fits, question-short}
 

@@ -53,13 +53,13 @@ use Rattle.protocol.specs.RebuilderCall.{tallied, Step, effectStep, stepOf, str
 use Rattle.anchors.specs.declared.Place.{Place}
 use Rattle.anchors.specs.declared.Place.the-variants.{At, Nowhere}
 use Rattle.anchors.specs.AnchorSearch.{Ready, placeIn}
-use Rattle.ends.specs.declared.state.Plan.{Plan}
-use Rattle.ends.specs.declared.state.Plan.the-variants.{Ask, Finished}
+use Rattle.states.specs.declared.state.Plan.{Plan}
+use Rattle.states.specs.declared.state.Plan.the-variants.{Ask, Finished}
 use Rattle.ends.specs.declared.rebuilder.RebuilderAnswer.{RebuilderAnswer}
 use Rattle.ends.specs.declared.rebuilder.RebuilderAnswer.the-variants.{Asks}
 use Rattle.ends.specs.declared.rebuilder.RebuilderOut.{RebuilderOut}
-use Rattle.ends.specs.StateCode.{Usable, Holds, Stages, Retries, Splits, Counts, Offsets, planOf}
-use Rattle.ends.specs.SoundLaws.{sound-counts}
+use Rattle.states.specs.StateCode.{Usable, Holds, Stages, Retries, Splits, Counts, Offsets, planOf}
+use Rattle.states.specs.SoundLaws.{sound-counts}
 use Rattle.ends.specs.RebuilderCode.{front, nextAnswer, OutIs, Acting, Splitting, RebuilderSaid, saidRebuilder, leavesRebuilder, stepTaken, trialStep, OneApart, oneLess, oneMore, repairHow}
 
 -- ---- the question that a sound state writes

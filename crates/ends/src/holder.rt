@@ -11,7 +11,6 @@ ghost use Rattle.messages.specs.declared.QuestionRead.the-variants.{Asked};
 ghost use Rattle.messages.specs.Answers.{sizeAnswer, hashAnswer, syndromeAnswer, bitsAnswer, answerBytes};
 ghost use Rattle.protocol.specs.HolderCall.{freshHolder, sameBitCount, inTurn, sends, answersTo, ofKind, holderCall};
 ghost use Rattle.ends.specs.HolderCode.{saidHolder, leavesHolder, refused, written, openedWith, oneMore, Answers, Able, Ready};
-use crate::sound::holder_is_sound;
 use messages::Kind;
 use messages::KindRead;
 use messages::Question;
@@ -19,6 +18,7 @@ use messages::QuestionRead;
 use messages::WriteResult;
 use protocol::Holder;
 use protocol::both;
+use states::holder_is_sound;
 use strings::Refusal;
 
 pub enum HolderAnswer {

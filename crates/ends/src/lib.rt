@@ -2,8 +2,6 @@
 mod holder;
 mod rebuilder;
 mod sheet;
-mod sound;
-mod state;
 
 pub use holder::HolderAnswer;
 pub use holder::HolderOut;

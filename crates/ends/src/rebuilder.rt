@@ -18,8 +18,6 @@ ghost use Rattle.protocol.specs.declared.How.the-variants.{ByAnchor};
 ghost use Rattle.protocol.specs.RebuilderCall.{tallied, stepOf, questionLength, awaits, rebuilderCall, rebuilderStart};
 ghost use Rattle.ends.specs.RebuilderCode.{OutIs, refusal, Acting, Splitting, Lending, OneApart, repairHow, trialStep, saidRebuilder, leavesRebuilder, stepTaken, WholeDue, Opening, BitsDue, dueLength, Due, answerRoom, heardStep, rooms, noRebuilder, saidStart, leavesStart};
 ghost use Rattle.ends.specs.declared.rebuilder.StartAnswer.the-variants.{NotBegun};
-use crate::sound::rebuilder_is_sound;
-use crate::state::Plan;
 use anchors::Place;
 use codes::Edit;
 use codes::Repair;
@@ -33,6 +31,8 @@ use protocol::Row;
 use protocol::Settings;
 use protocol::SheetChange;
 use protocol::both;
+use states::Plan;
+use states::rebuilder_is_sound;
 use strings::Refusal;
 
 // What a start gives: the length of the opening question, or why it is turned down.
@@ -107,7 +107,7 @@ fn finish(s: Rebuilder, change: SheetChange, question: &mut [u8]) -> RebuilderOu
     requires { ⌜ (sound s ≡ true) × (8 ≤ length (now question)) ⌝ }
     ensures { λ r. ⌜ OutIs r s change (now (question .entry)) (now (question .exit)) ⌝ }
 {
-    match crate::state::plan_next(s) {
+    match states::plan_next(s) {
         Plan::Finished => give(RebuilderAnswer::Finished, s, change),
         Plan::Ask(q) => match messages::write_question(q, question) {
             WriteResult::TooShort => give(RebuilderAnswer::Finished, s, change),
@@ -121,10 +121,10 @@ fn settle(st: Rebuilder, size: u32, how: How, question: &mut [u8]) -> RebuilderO
     requires { ⌜ Acting st size (length (now question)) ⌝ }
     ensures { λ r. ⌜ OutIs r (tallied (restaged (popped st)) size 1) (AddRow (st .rows) (row (top st .x) (top st .p) how)) (now (question .entry)) (now (question .exit)) ⌝ }
 {
-    let t = crate::state::top(st);
-    let one = crate::state::pop(st);
-    let two = crate::state::restage(one);
-    let s = crate::state::tally(two, size, 1);
+    let t = states::top(st);
+    let one = states::pop(st);
+    let two = states::restage(one);
+    let s = states::tally(two, size, 1);
     let number = how_number(how);
     let line = Row {
         start: t.x,
@@ -140,8 +140,8 @@ fn leave_waiting(st: Rebuilder, size: u32, question: &mut [u8]) -> RebuilderOut
     requires { ⌜ st .stage < 4 ⌝ }
     ensures { λ r. ⌜ OutIs r (tallied (retried st) size 0) NoRow (now (question .entry)) (now (question .exit)) ⌝ }
 {
-    let one = crate::state::retry(st);
-    let s = crate::state::tally(one, size, 0);
+    let one = states::retry(st);
+    let s = states::tally(one, size, 0);
     finish(s, SheetChange::NoRow, question)
 }
 
@@ -151,9 +151,9 @@ fn split(st: Rebuilder, size: u32, s: u32, r: u32, question: &mut [u8]) -> Rebui
     requires { ⌜ Splitting st s r ⌝ }
     ensures { λ o. ⌜ OutIs o (tallied (splitAt st s r) size 1) (AddRow (st .rows) (row (top st .x + s) (st .settings .m) ByAnchor)) (now (question .entry)) (now (question .exit)) ⌝ }
 {
-    let t = crate::state::top(st);
-    let one = crate::state::split_at(st, s, r);
-    let next = crate::state::tally(one, size, 1);
+    let t = states::top(st);
+    let one = states::split_at(st, s, r);
+    let next = states::tally(one, size, 1);
     let line = Row {
         start: t.x + s,
         len: st.settings.m,
@@ -178,7 +178,7 @@ fn try_edit(
     requires { ⌜ (st .stage < 4) × Fits e (top st .q) (top st .p) ⌝ }
     ensures { λ r. ⌜ saidRebuilder r (now (string .exit)) (now (question .exit)) ≡ leavesRebuilder st (now (string .entry)) (now (question .entry)) (stepTaken (trialStep st (now (y .entry)) size v how e)) ⌝ }
 {
-    let t = crate::state::top(st);
+    let t = states::top(st);
     let x = t.x as usize;
     let p = t.p as usize;
     let start = t.y as usize;
@@ -234,7 +234,7 @@ fn take_syndrome(
     requires { ⌜ (st .stage ≡ 0) × OneApart (top st .p) (top st .q) ⌝ }
     ensures { λ r. ⌜ saidRebuilder r (now (string .exit)) (now (question .exit)) ≡ leavesRebuilder st (now (string .entry)) (now (question .entry)) (stepTaken (stepOf st (now (y .entry)) size (syndromeAnswer a v))) ⌝ }
 {
-    let t = crate::state::top(st);
+    let t = states::top(st);
     let p = t.p as usize;
     let start = t.y as usize;
     let q = t.q as usize;
@@ -258,7 +258,7 @@ fn take_piece(
     requires { ⌜ top st .p ≤ 8 * length (now bits) ⌝ }
     ensures { λ r. ⌜ ((y : List ℕ) → saidRebuilder r (now (string .exit)) (now (question .exit)) ≡ leavesRebuilder st (now (string .entry)) (now (question .entry)) (stepTaken (stepOf st y size (bitsAnswer (range (now (bits .entry)) 0 (top st .p)))))) ⌝ }
 {
-    let t = crate::state::top(st);
+    let t = states::top(st);
     strings::copy_bits(bits, 0, t.p as usize, string, t.x as usize);
     settle(st, size, How::ByBits, question)
 }
@@ -278,10 +278,10 @@ fn take_anchor(
     requires { ⌜ st .settings .m ≤ 8 * length (now bits) ⌝ }
     ensures { λ r. ⌜ saidRebuilder r (now (string .exit)) (now (question .exit)) ≡ leavesRebuilder st (now (string .entry)) (now (question .entry)) (stepTaken (stepOf st (now (y .entry)) size (bitsAnswer (range (now (bits .entry)) 0 (st .settings .m))))) ⌝ }
 {
-    let t = crate::state::top(st);
+    let t = states::top(st);
     let m = st.settings.m as usize;
     let k = st.settings.k as usize;
-    let s = crate::state::anchor_offset(st.settings.m, t.p, st.stage);
+    let s = states::anchor_offset(st.settings.m, t.p, st.stage);
     let place = anchors::place_anchor(
         y,
         t.y as usize,
@@ -315,7 +315,7 @@ fn take_whole(
     requires { ⌜ (st .n ≤ 8 * length (now string)) × (st .n ≤ 8 * length (now bits)) ⌝ }
     ensures { λ r. ⌜ ((y : List ℕ) → saidRebuilder r (now (string .exit)) (now (question .exit)) ≡ leavesRebuilder st (now (string .entry)) (now (question .entry)) (stepTaken (stepOf st y size (bitsAnswer (range (now (bits .entry)) 0 (st .n)))))) ⌝ }
 {
-    let s = crate::state::whole_state(st, size);
+    let s = states::whole_state(st, size);
     strings::copy_bits(bits, 0, st.n as usize, string, 0);
     let line = Row {
         start: 0,
@@ -331,7 +331,7 @@ fn take_size(st: Rebuilder, n: u32, string: &mut [u8], question: &mut [u8]) -> R
     requires { ⌜ bytesFor n ≤ length (now string) ⌝ }
     ensures { λ r. ⌜ ((y : List ℕ) (size : ℕ) → saidRebuilder r (now (string .exit)) (now (question .exit)) ≡ leavesRebuilder st (now (string .entry)) (now (question .entry)) (stepTaken (stepOf st y size (sizeAnswer n)))) ⌝ }
 {
-    let s = crate::state::open_state(st, n);
+    let s = states::open_state(st, n);
     strings::clear_bytes(string, 0, (n as usize + 7) / 8);
     finish(s, SheetChange::NoRow, question)
 }
@@ -488,7 +488,7 @@ pub fn rebuilder_call(
     if !rebuilder_is_sound(st) {
         return refuse(st, Refusal::OutOfTurn);
     }
-    match crate::state::plan_next(st) {
+    match states::plan_next(st) {
         Plan::Finished => refuse(st, Refusal::OutOfTurn),
         Plan::Ask(q) => hear(st, y, msg, rows, q, string, question),
     }
@@ -498,7 +498,7 @@ pub fn rebuilder_call(
 fn no_rebuilder() -> Rebuilder
     ensures { λ r. ⌜ r ≡ noRebuilder ⌝ }
 {
-    crate::state::fresh_rebuilder(
+    states::fresh_rebuilder(
         Settings {
             m: 0,
             h: 0,
@@ -537,7 +537,7 @@ pub fn rebuilder_start(settings: Settings, y: &[u8], bits: usize, question: &mut
         WriteResult::TooShort => not_begun(Refusal::NoRoom),
         WriteResult::Written(size) => StartOut {
             answer: StartAnswer::Begun(size),
-            state: crate::state::fresh_rebuilder(settings, bits as u32),
+            state: states::fresh_rebuilder(settings, bits as u32),
         },
     }
 }

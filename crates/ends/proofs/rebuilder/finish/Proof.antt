@@ -1,4 +1,4 @@
-use Rattle.ends.specs.SoundLaws.{sound-plans}
+use Rattle.states.specs.SoundLaws.{sound-plans}
 use Rattle.ends.specs.RebuilderCodeLaws.{finished-out, short-out, asked-out}
 use borrow.Author.Needs.{needs}
 use Rattle.ends.proofs.rebuilder.finish.Statement.{statement}
@@ -6,7 +6,7 @@ use Rattle.ends.proofs.rebuilder.finish.Tie as tie
 use Rattle.ends.proofs.rebuilder.finish.Reads as reads
 use Rattle.ends.proofs.rebuilder.finish.Lts as lts
 use Rattle.ends.proofs.rebuilder.give.Reads as give-reads
-use Rattle.ends.proofs.state.plan_next.Reads as plan-next-reads
+use Rattle.states.proofs.plan_next.Reads as plan-next-reads
 use Rattle.messages.proofs.write_question.Reads as write-question-reads
 
 -- src/rebuilder.rt:106:11

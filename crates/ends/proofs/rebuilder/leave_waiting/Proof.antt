@@ -5,8 +5,8 @@ use Rattle.ends.proofs.rebuilder.leave_waiting.Tie as tie
 use Rattle.ends.proofs.rebuilder.leave_waiting.Reads as reads
 use Rattle.ends.proofs.rebuilder.leave_waiting.Lts as lts
 use Rattle.ends.proofs.rebuilder.finish.Reads as finish-reads
-use Rattle.ends.proofs.state.retry.Reads as retry-reads
-use Rattle.ends.proofs.state.tally.Reads as tally-reads
+use Rattle.states.proofs.retry.Reads as retry-reads
+use Rattle.states.proofs.tally.Reads as tally-reads
 
 -- src/rebuilder.rt:139:9
 retry-requires : tie.Need-retry-requires

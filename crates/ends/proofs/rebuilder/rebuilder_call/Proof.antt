@@ -1,6 +1,6 @@
 use mathlib.Core.Path.{refl, sym, _∙_}
 use borrow.Author.Tests.{not-true, not-false}
-use Rattle.ends.specs.SoundLaws.{sound-plans}
+use Rattle.states.specs.SoundLaws.{sound-plans}
 use Rattle.ends.specs.HolderCodeLaws.{test-is}
 use Rattle.ends.specs.RebuilderCodeLaws.{none-planned, some-planned}
 use Rattle.ends.specs.RebuilderCallLaws.{call-bad-string, call-unsound, call-awaits, copy-there, taken-said, refused-said}
@@ -12,8 +12,8 @@ use Rattle.ends.proofs.rebuilder.rebuilder_call.Lts as lts
 use Rattle.ends.proofs.rebuilder.hear.Reads as hear-reads
 use Rattle.ends.proofs.rebuilder.refuse.Reads as refuse-reads
 use Rattle.protocol.proofs.both.Reads as both-reads
-use Rattle.ends.proofs.sound.rebuilder_is_sound.Reads as rebuilder-is-sound-reads
-use Rattle.ends.proofs.state.plan_next.Reads as plan-next-reads
+use Rattle.states.proofs.rebuilder_is_sound.Reads as rebuilder-is-sound-reads
+use Rattle.states.proofs.plan_next.Reads as plan-next-reads
 use Rattle.strings.proofs.keeps_string_rule.Reads as keeps-string-rule-reads
 
 -- src/rebuilder.rt:438:14

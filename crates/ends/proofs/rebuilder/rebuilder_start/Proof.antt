@@ -9,7 +9,7 @@ use Rattle.ends.proofs.rebuilder.rebuilder_start.Reads as reads
 use Rattle.ends.proofs.rebuilder.rebuilder_start.Lts as lts
 use Rattle.ends.proofs.rebuilder.not_begun.Reads as not-begun-reads
 use Rattle.protocol.proofs.Settings.is_within_limits.Reads as is-within-limits-reads
-use Rattle.ends.proofs.state.fresh_rebuilder.Reads as fresh-rebuilder-reads
+use Rattle.states.proofs.fresh_rebuilder.Reads as fresh-rebuilder-reads
 use Rattle.messages.proofs.write_question.Reads as write-question-reads
 use Rattle.strings.proofs.keeps_string_rule.Reads as keeps-string-rule-reads
 

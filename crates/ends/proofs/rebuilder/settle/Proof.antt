@@ -6,10 +6,10 @@ use Rattle.ends.proofs.rebuilder.settle.Reads as reads
 use Rattle.ends.proofs.rebuilder.settle.Lts as lts
 use Rattle.ends.proofs.rebuilder.finish.Reads as finish-reads
 use Rattle.ends.proofs.rebuilder.how_number.Reads as how-number-reads
-use Rattle.ends.proofs.state.pop.Reads as pop-reads
-use Rattle.ends.proofs.state.restage.Reads as restage-reads
-use Rattle.ends.proofs.state.tally.Reads as tally-reads
-use Rattle.ends.proofs.state.top.Reads as top-reads
+use Rattle.states.proofs.pop.Reads as pop-reads
+use Rattle.states.proofs.restage.Reads as restage-reads
+use Rattle.states.proofs.tally.Reads as tally-reads
+use Rattle.states.proofs.top.Reads as top-reads
 
 -- src/rebuilder.rt:120:9
 top-requires : tie.Need-top-requires

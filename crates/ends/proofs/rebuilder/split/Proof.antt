@@ -5,9 +5,9 @@ use Rattle.ends.proofs.rebuilder.split.Tie as tie
 use Rattle.ends.proofs.rebuilder.split.Reads as reads
 use Rattle.ends.proofs.rebuilder.split.Lts as lts
 use Rattle.ends.proofs.rebuilder.finish.Reads as finish-reads
-use Rattle.ends.proofs.state.split_at.Reads as split-at-reads
-use Rattle.ends.proofs.state.tally.Reads as tally-reads
-use Rattle.ends.proofs.state.top.Reads as top-reads
+use Rattle.states.proofs.split_at.Reads as split-at-reads
+use Rattle.states.proofs.tally.Reads as tally-reads
+use Rattle.states.proofs.top.Reads as top-reads
 
 -- src/rebuilder.rt:150:9
 top-requires : tie.Need-top-requires

@@ -7,8 +7,8 @@ use Rattle.ends.proofs.rebuilder.take_anchor.Lts as lts
 use Rattle.anchors.proofs.place_anchor.Reads as place-anchor-reads
 use Rattle.ends.proofs.rebuilder.leave_waiting.Reads as leave-waiting-reads
 use Rattle.ends.proofs.rebuilder.split.Reads as split-reads
-use Rattle.ends.proofs.state.anchor_offset.Reads as anchor-offset-reads
-use Rattle.ends.proofs.state.top.Reads as top-reads
+use Rattle.states.proofs.anchor_offset.Reads as anchor-offset-reads
+use Rattle.states.proofs.top.Reads as top-reads
 use Rattle.strings.proofs.copy_bits.Reads as copy-bits-reads
 
 -- src/rebuilder.rt:264:9

@@ -5,7 +5,7 @@ use Rattle.ends.proofs.rebuilder.take_piece.Tie as tie
 use Rattle.ends.proofs.rebuilder.take_piece.Reads as reads
 use Rattle.ends.proofs.rebuilder.take_piece.Lts as lts
 use Rattle.ends.proofs.rebuilder.settle.Reads as settle-reads
-use Rattle.ends.proofs.state.top.Reads as top-reads
+use Rattle.states.proofs.top.Reads as top-reads
 use Rattle.strings.proofs.copy_bits.Reads as copy-bits-reads
 
 -- src/rebuilder.rt:244:9

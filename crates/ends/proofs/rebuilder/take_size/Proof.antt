@@ -5,7 +5,7 @@ use Rattle.ends.proofs.rebuilder.take_size.Tie as tie
 use Rattle.ends.proofs.rebuilder.take_size.Reads as reads
 use Rattle.ends.proofs.rebuilder.take_size.Lts as lts
 use Rattle.ends.proofs.rebuilder.finish.Reads as finish-reads
-use Rattle.ends.proofs.state.open_state.Reads as open-state-reads
+use Rattle.states.proofs.open_state.Reads as open-state-reads
 use Rattle.strings.proofs.clear_bytes.Reads as clear-bytes-reads
 
 -- src/rebuilder.rt:307:9

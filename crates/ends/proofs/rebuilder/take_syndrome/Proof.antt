@@ -9,7 +9,7 @@ use Rattle.codes.proofs.find_repair.Reads as find-repair-reads
 use Rattle.ends.proofs.rebuilder.leave_waiting.Reads as leave-waiting-reads
 use Rattle.ends.proofs.rebuilder.repair_how.Reads as repair-how-reads
 use Rattle.ends.proofs.rebuilder.try_edit.Reads as try-edit-reads
-use Rattle.ends.proofs.state.top.Reads as top-reads
+use Rattle.states.proofs.top.Reads as top-reads
 
 -- src/rebuilder.rt:226:9
 top-requires : tie.Need-top-requires

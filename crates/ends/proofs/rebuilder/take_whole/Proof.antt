@@ -6,7 +6,7 @@ use Rattle.ends.proofs.rebuilder.take_whole.Tie as tie
 use Rattle.ends.proofs.rebuilder.take_whole.Reads as reads
 use Rattle.ends.proofs.rebuilder.take_whole.Lts as lts
 use Rattle.ends.proofs.rebuilder.finish.Reads as finish-reads
-use Rattle.ends.proofs.state.whole_state.Reads as whole-state-reads
+use Rattle.states.proofs.whole_state.Reads as whole-state-reads
 use Rattle.strings.proofs.copy_bits.Reads as copy-bits-reads
 
 -- src/rebuilder.rt:291:9

@@ -8,7 +8,7 @@ use Rattle.codes.proofs.copy_edited.Reads as copy-edited-reads
 use Rattle.codes.proofs.hash_edited.Reads as hash-edited-reads
 use Rattle.ends.proofs.rebuilder.leave_waiting.Reads as leave-waiting-reads
 use Rattle.ends.proofs.rebuilder.settle.Reads as settle-reads
-use Rattle.ends.proofs.state.top.Reads as top-reads
+use Rattle.states.proofs.top.Reads as top-reads
 
 -- src/rebuilder.rt:177:9
 top-requires : tie.Need-top-requires

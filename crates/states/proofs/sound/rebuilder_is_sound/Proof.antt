@@ -1,0 +1,48 @@
+use mathlib.Core.Path.{sym, _∙_}
+use borrow.Author.Tests.{not-true, not-false}
+use Rattle.protocol.specs.SoundLaws.{limits-is}
+use Rattle.states.specs.SoundCode.{sound-settings, sound-ybits, sound-n, sound-waiting, sound-rest}
+use borrow.Author.Needs.{needs}
+use Rattle.states.proofs.sound.rebuilder_is_sound.Statement.{statement}
+use Rattle.states.proofs.sound.rebuilder_is_sound.Tie as tie
+
+is-within-limits-requires : tie.Need-is-within-limits-requires
+is-within-limits-requires c κs = search needs
+
+returns : tie.Need-returns
+returns c = sound-settings (c .before .before .args .st) (c .before .is-within-limits .result) (c .before .is-within-limits .ensures) (not-true _ (c .if1 .taken))
+
+returns-2 : tie.Need-returns-2
+returns-2 c = sound-ybits (c .before .before .before .before .args .st) (c .before .before .before .is-within-limits .result) (c .before .before .before .is-within-limits .ensures) (not-false _ (c .before .before .if1 .left)) (c .if2 .taken)
+
+returns-3 : tie.Need-returns-3
+returns-3 c = sound-n (c .before .before .before .before .before .before .args .st) (c .before .before .before .before .before .is-within-limits .result) (c .before .before .before .before .before .is-within-limits .ensures) (not-false _ (c .before .before .before .before .if1 .left)) (c .before .before .if2 .left) (c .if3 .taken)
+
+returns-4 : tie.Need-returns-4
+returns-4 c = sound-waiting (c .before .before .before .before .before .before .before .before .args .st) (c .before .before .before .before .before .before .before .is-within-limits .result) (c .before .before .before .before .before .before .before .is-within-limits .ensures) (not-false _ (c .before .before .before .before .before .before .if1 .left)) (c .before .before .before .before .if2 .left) (c .before .before .if3 .left) (c .if4 .taken)
+
+blank-behind-requires : tie.Need-blank-behind-requires
+blank-behind-requires c κs = search needs
+
+phase-is-sound-requires : tie.Need-phase-is-sound-requires
+phase-is-sound-requires c κs = record { limits = limits-is _ (sym (c .before .before .before .before .before .before .before .before .is-within-limits .ensures) ∙ not-false _ (c .before .before .before .before .before .before .before .if1 .left)); n-most = c .before .before .before .if3 .left; few = c .before .if4 .left }
+
+both-requires : tie.Need-both-requires
+both-requires c κs = search needs
+
+returns-5 : tie.Need-returns-5
+returns-5 c = sound-rest (c .before .before .before .before .before .before .before .before .before .before .before .args .st) (c .before .before .before .before .before .before .before .before .before .before .is-within-limits .result) (c .before .before .before .before .before .before .before .before .before .before .is-within-limits .ensures) (not-false _ (c .before .before .before .before .before .before .before .before .before .if1 .left)) (c .before .before .before .before .before .before .before .if2 .left) (c .before .before .before .before .before .if3 .left) (c .before .before .before .if4 .left) (c .before .before .blank-behind .result) (c .before .phase-is-sound .result) (c .both .result) (c .before .before .blank-behind .ensures) (c .before .phase-is-sound .ensures) (c .both .ensures)
+
+pub rebuilder-is-sound-spec : {M : Type 1} → statement M
+rebuilder-is-sound-spec =
+    tie.close
+    (tie.spec
+    is-within-limits-requires
+    returns
+    returns-2
+    returns-3
+    returns-4
+    blank-behind-requires
+    phase-is-sound-requires
+    both-requires
+    returns-5)

@@ -1,0 +1,18 @@
+use mathlib.Core.Path.{refl}
+use Rattle.protocol.specs.RebuilderCall.{wholeStep}
+use borrow.Author.Needs.{needs}
+use Rattle.states.proofs.state.whole_state.Statement.{statement}
+use Rattle.states.proofs.state.whole_state.Tie as tie
+
+add-s : tie.Need-add-s
+add-s c = search needs
+
+add-s-2 : tie.Need-add-s-2
+add-s-2 c = search needs
+
+returns : tie.Need-returns
+unfolding wholeStep
+returns c = λ l. refl
+
+pub whole-state-spec : {M : Type 1} → statement M
+whole-state-spec = tie.close (tie.spec add-s add-s-2 returns)
