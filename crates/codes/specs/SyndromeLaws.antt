@@ -7,6 +7,9 @@ use native.Mathlib.Nat.{mod-lt, le-refl, add-zero, add-suc, zero-add, zero-mul, 
 use native.Mathlib.Numerals.{add-one}
 use native.Mathlib.Omega.{arith}
 use lib.ListN.{length, take, drop, getD, length-append}
+use mir.Val.{boolByte}
+use Rattle.strings.specs.Bits.{bitAt}
+use Rattle.strings.specs.RangeLaws.{rest, rest-is}
 use Rattle.codes.specs.Syndrome.{weightedSum, syndrome}
 use Rattle.codes.specs.Repair.{without, insertAt}
 use Rattle.codes.specs.Place.{ones, zeros}
@@ -117,9 +120,30 @@ pub syndrome-is : (l : List Bool) (n x : ℕ) → length l ≡ n → x ≡ weigh
 unfolding syndrome
 syndrome-is l n x e f = rw (e, f) refl
 
--- ---- one more bit read, for a function that passes over the bits
-pub weighted-sum-one : (k : ℕ) (l l′ : List Bool) → l ≡ true ∷ l′ → weightedSum k l ≡ k + weightedSum (k + 1) l′
-weighted-sum-one k l l′ e = rw (e, add-one) refl
+-- ---- one more bit read, for a function that passes over the bits: forwards for the ones, and for the sum backwards, so that every place behind is one later
+pub bit-most : (b : Bool) → boolByte b ≤ 1
+bit-most true = omega arith
+bit-most false = omega arith
 
-pub weighted-sum-zero : (k : ℕ) (l l′ : List Bool) → l ≡ false ∷ l′ → weightedSum k l ≡ weightedSum (k + 1) l′
-weighted-sum-zero k l l′ e = rw (e, add-one) refl
+pub ones-next : (l l′ : List Bool) (b : Bool) → l ≡ b ∷ l′ → ones l ≡ ones l′ + boolByte b
+ones-next l l′ b e = ap ones e ∙ go b
+  where
+    go : (b : Bool) → ones (b ∷ l′) ≡ ones l′ + boolByte b
+    go true = omega arith
+    go false = omega arith
+
+pub weighted-sum-next : (l l′ : List Bool) (b : Bool) → l ≡ b ∷ l′ → weightedSum 1 l ≡ weightedSum 1 l′ + ones l
+weighted-sum-next l l′ b e = ap (weightedSum 1) e ∙ go b ∙ ap (λ (x : List Bool). weightedSum 1 l′ + ones x) (sym e)
+  where
+    go : (b : Bool) → weightedSum 1 (b ∷ l′) ≡ weightedSum 1 l′ + ones (b ∷ l′)
+    go true = let h = weighted-sum-later 1 l′ in omega arith
+    go false = weighted-sum-later 1 l′
+
+pub sum-back : (s : List ℕ) (start len i n sum : ℕ) (b : Bool) → 0 < i → i ≤ len → b ≡ bitAt s (start + (i - 1)) → n ≡ ones (rest s start len i) → sum ≡ weightedSum 1 (rest s start len i)
+    → (n + boolByte b ≡ ones (rest s start len (i - 1))) × (sum + (n + boolByte b) ≡ weightedSum 1 (rest s start len (i - 1)))
+sum-back s start len i n sum b h k e f g =
+    let q : i - 1 + 1 ≡ i = omega arith in
+    let r = rest-is s start len (i - 1) b b (omega arith) e refl ∙ ap (λ (x : ℕ). b ∷ rest s start len x) q in
+    let o = ones-next (rest s start len (i - 1)) (rest s start len i) b r in
+    let w = weighted-sum-next (rest s start len (i - 1)) (rest s start len i) b r in
+    (omega arith, omega arith)

@@ -12,27 +12,26 @@ pub fn count_ones(s: &[u8], start: usize, len: usize) -> usize
     let mut n: usize = 0;
     let mut i: usize = 0;
     while i < len {
-        if strings::get_bit(s, start + i) {
-            n += 1;
-        }
+        n += strings::get_bit(s, start + i) as usize;
         i += 1;
     }
     n
 }
 
-// The sum of the places of the ones, the first place being 1.
+// The sum of the places of the ones, the first place being 1. From the last bit to the first, the ones so far are added at each bit: a
+// one is added once for its own place and once for each place before it. There is no branch, because the bits of a string are hard to
+// foretell.
 pub fn weighted_sum(s: &[u8], start: usize, len: usize) -> usize
     requires { ⌜ Part (now s) start len ⌝ }
     ensures { λ r. ⌜ r ≡ weightedSum 1 (range (now (s .entry)) start len) ⌝ }
 {
     let mut sum: usize = 0;
-    let mut i: usize = 0;
-    while i < len {
-        let b = strings::get_bit(s, start + i);
-        i += 1;
-        if b {
-            sum += i;
-        }
+    let mut n: usize = 0;
+    let mut i = len;
+    while 0 < i {
+        i -= 1;
+        n += strings::get_bit(s, start + i) as usize;
+        sum += n;
     }
     sum
 }

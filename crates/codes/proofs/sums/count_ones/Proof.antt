@@ -1,12 +1,11 @@
 -- `codes::count_ones` meets its contract: the ones so far and those of the rest are all the ones. Assumes nothing.
-use mathlib.Core.Path.{_≡_, ap}
-use mathlib.Core.Bool.{true, false}
-use mathlib.Core.Logic.{⊎-elim}
+use mathlib.Core.Path.{_≡_, refl, ap}
 use Prim.Native.Nat.{_+_, _-_, _≤_}
 use native.Mathlib.Omega.{arith}
 use Rattle.strings.specs.Bits.{range}
 use Rattle.strings.specs.RangeLaws.{rest, rest-first, rest-last, rest-is}
 use Rattle.codes.specs.Place.{ones}
+use Rattle.codes.specs.SyndromeLaws.{bit-most, ones-next}
 use borrow.Author.Needs.{needs}
 use Rattle.codes.proofs.sums.count_ones.Statement.{statement}
 use Rattle.codes.proofs.sums.count_ones.Tie as tie
@@ -18,9 +17,7 @@ abbrev μ-loop : tie.MeasureT-loop
 μ-loop s start len n₀ i₀ n i = len - i
 
 loop-holds : tie.Need-loop-holds Inv-loop μ-loop
-loop-holds c =
-    let args = c .before .args in
-    let e = ap ones (rest-first (args .s .now) (args .start) (args .len)) in omega arith
+loop-holds c = let e = ap ones (rest-first (c .before .args .s .now) (c .before .args .start) (c .before .args .len)) in omega arith
 
 add-get-bit : tie.Need-add-get-bit Inv-loop μ-loop
 add-get-bit c = search needs
@@ -28,8 +25,11 @@ add-get-bit c = search needs
 get-bit-requires : tie.Need-get-bit-requires Inv-loop μ-loop
 get-bit-requires c κs = search needs
 
+cast-n : tie.Need-cast-n Inv-loop μ-loop
+cast-n c = search needs
+
 add-n : tie.Need-add-n Inv-loop μ-loop
-add-n c = search needs
+add-n c = let m = bit-most (c .get-bit .result) in omega arith
 
 add-i : tie.Need-add-i Inv-loop μ-loop
 add-i c = search needs
@@ -38,20 +38,12 @@ loop-less : tie.Need-loop-less Inv-loop μ-loop
 loop-less c = search needs
 
 loop-again : tie.Need-loop-again Inv-loop μ-loop
-loop-again c =
-    let args = c .before .before .before .before .before .args in
-    let loop = c .before .before .before .loop in
-    let get-bit = c .before .get-bit in
-    let loop-test = c .before .before .loop-test in
-    ⊎-elim
-    (λ w. let e = ap ones (rest-is (args .s .now) (args .start) (args .len) (loop .i) (get-bit .result) true (loop-test .taken) (get-bit .ensures) (w .0 .taken)) in omega arith)
-    (λ w. let e = ap ones (rest-is (args .s .now) (args .start) (args .len) (loop .i) (get-bit .result) false (loop-test .taken) (get-bit .ensures) (w .0 .left)) in omega arith)
-    (c .if1 .came)
+loop-again c = let b = c .get-bit .result in
+    let m = bit-most b in
+    let e = ones-next _ _ b (rest-is (c .before .before .before .before .args .s .now) (c .before .before .before .before .args .start) (c .before .before .before .before .args .len) (c .before .before .loop .i) b b (c .before .loop-test .taken) (c .get-bit .ensures) refl) in omega arith
 
 returns : tie.Need-returns Inv-loop μ-loop
-returns c =
-    let args = c .before .before .before .args in
-    let e = ap ones (rest-last (args .s .now) (args .start) (args .len) (c .before .loop .i) (c .loop-test .left)) in omega arith
+returns c = let e = ap ones (rest-last (c .before .before .before .args .s .now) (c .before .before .before .args .start) (c .before .before .before .args .len) (c .before .loop .i) (c .loop-test .left)) in omega arith
 
 pub count-ones-spec : {M : Type 1} → statement M
 count-ones-spec =
@@ -62,6 +54,7 @@ count-ones-spec =
     loop-holds
     add-get-bit
     get-bit-requires
+    cast-n
     add-n
     add-i
     loop-less
