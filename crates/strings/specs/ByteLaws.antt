@@ -2,37 +2,53 @@
 use mathlib.Core.Path.{_≡_, refl, sym, ap, ap₂, _∙_}
 use mathlib.Core.Bool.{Bool, false}
 use mathlib.Core.Logic.{inl, inr}
-use mathlib.Core.List.{List}
+use mathlib.Core.List.{List, [], _++_}
 use Prim.Native.Nat.{ℕ, zero, suc, _+_, _-_, _*_, _/_, _%_, _^_, _≤_, _<_}
 use native.Mathlib.Nat.{add-zero, div-eq-of-lt, lt-of-lt-of-le, mul-assoc}
 use native.Mathlib.Decide.{decLt, decLe}
 use native.Mathlib.Omega.{arith}
 use lib.ListN.{length, getD, set, length-set}
-use lib.Seq.{getD-set-same, getD-set-other}
+use lib.Seq.{getD-set-same, getD-set-other, ext-getD}
 use lib.Dec.{eqb}
 use lib.Bits.{bitXor, differ, shifted-even, xor-lt}
 use lib.Pow.{field, mod-mod-pow, pow-add, pow-mono, shl-shr, shr-shr, shr-le}
-use Rattle.strings.specs.Bits.{bitAt, range, writeBits}
+use Rattle.strings.specs.Bits.{bitAt, range, byteBits, Eight, writeBits}
 use Rattle.strings.specs.BitLaws.{xor-digit, differ-zero}
 use Rattle.strings.specs.RangeLaws.{range-length, range-at, range-add, range-none}
 use Rattle.strings.specs.WriteLaws.{length-writeBits, write-none, write-outside, write-inside, write-append}
 use Rattle.strings.specs.PackLaws.{Bytes, bytes-by-bits, set-bytes, write-bytes}
 
--- v is a byte, and its bits are the eight bits of s from bit p on
-pub record Eight (s : List ℕ) (p v : ℕ) : Type 0 where
-  pub byte : v < 256
-  pub bits : (j : ℕ) → j < 8 → eqb (v / 2 ^ (7 - j) % 2) 1 ≡ bitAt s (p + j)
+-- ---- a byte by its bits
+byte-bit : (v j : ℕ) → j < 8 → getD (byteBits v) j false ≡ eqb (v / 2 ^ (7 - j) % 2) 1
+byte-bit v zero h = refl
+byte-bit v (suc zero) h = refl
+byte-bit v (suc (suc zero)) h = refl
+byte-bit v (suc (suc (suc zero))) h = refl
+byte-bit v (suc (suc (suc (suc zero)))) h = refl
+byte-bit v (suc (suc (suc (suc (suc zero))))) h = refl
+byte-bit v (suc (suc (suc (suc (suc (suc zero)))))) h = refl
+byte-bit v (suc (suc (suc (suc (suc (suc (suc zero))))))) h = refl
+byte-bit v (suc (suc (suc (suc (suc (suc (suc (suc j)))))))) h = absurd (omega arith)
+
+by-bits : (s : List ℕ) (p v : ℕ) → v < 256 → ((j : ℕ) → j < 8 → eqb (v / 2 ^ (7 - j) % 2) 1 ≡ bitAt s (p + j)) → Eight s p v
+by-bits s p v h e = record {
+  byte = h;
+  bits = ext-getD false (range s p 8) (byteBits v) (range-length s p 8) (λ j l. let n = range-length s p 8 in range-at s p 8 j (omega arith) ∙ sym (e j (omega arith)) ∙ sym (byte-bit v j (omega arith)));
+}
+
+eight-bit : (s : List ℕ) (p v j : ℕ) → Eight s p v → j < 8 → bitAt s (p + j) ≡ eqb (v / 2 ^ (7 - j) % 2) 1
+eight-bit s p v j e l = sym (range-at s p 8 j l) ∙ ap (λ (x : List Bool). getD x j false) (e .bits) ∙ byte-bit v j l
 
 -- ---- eight bits that are a byte of the string
-pub eight-whole : (s : List ℕ) (p : ℕ) → Bytes s → p % 8 ≡ 0 → Eight s p (getD s (p / 8) 0)
+whole-bit : (s : List ℕ) (p j : ℕ) → p % 8 ≡ 0 → j < 8 → eqb (getD s (p / 8) 0 / 2 ^ (7 - j) % 2) 1 ≡ bitAt s (p + j)
 unfolding bitAt
-eight-whole s p h e = record {
-  byte = h (p / 8);
-  bits = λ j l.
-      let q : (p + j) / 8 ≡ p / 8 = omega arith in
-      let r : (p + j) % 8 ≡ j = omega arith in
-      rw (q, r) refl;
-}
+whole-bit s p j e l =
+    let q : (p + j) / 8 ≡ p / 8 = omega arith in
+    let r : (p + j) % 8 ≡ j = omega arith in
+    rw (q, r) refl
+
+pub eight-whole : (s : List ℕ) (p : ℕ) → Bytes s → p % 8 ≡ 0 → Eight s p (getD s (p / 8) 0)
+eight-whole s p h e = by-bits s p (getD s (p / 8) 0) (h (p / 8)) (λ j l. whole-bit s p j e l)
 
 -- ---- the digits of a byte shifted to the left and cut, and of one shifted to the right
 cut-digit : (x k m : ℕ) → m < 8 → (x * 2 ^ k) % 256 / 2 ^ m % 2 ≡ x * 2 ^ k / 2 ^ m % 2
@@ -87,10 +103,7 @@ pub eight-joined : (s : List ℕ) (p : ℕ) → Bytes s → Eight s p (joined s 
 eight-joined s p h =
     let x : (getD s (p / 8) 0 * 2 ^ (p % 8)) % 256 < 256 = omega arith in
     let y : getD s (p / 8 + 1) 0 / 2 ^ (8 - p % 8) < 256 = let d = shr-le (getD s (p / 8 + 1) 0) (8 - p % 8) in let b = h (p / 8 + 1) in omega arith in
-    record {
-      byte = xor-lt 8 ((getD s (p / 8) 0 * 2 ^ (p % 8)) % 256) (getD s (p / 8 + 1) 0 / 2 ^ (8 - p % 8)) x y;
-      bits = λ j l. joined-bit s p j h l (decLe (p % 8) (7 - j));
-    }
+    by-bits s p (joined s p) (xor-lt 8 ((getD s (p / 8) 0 * 2 ^ (p % 8)) % 256) (getD s (p / 8 + 1) 0 / 2 ^ (8 - p % 8)) x y) (λ j l. joined-bit s p j h l (decLe (p % 8) (7 - j)))
 
 -- ---- a byte stored is eight bits written at its edge
 stored-bit : (t : List ℕ) (j v d : ℕ) → j < length t → d < 8 → bitAt (set t j v) (8 * j + d) ≡ eqb (v / 2 ^ (7 - d) % 2) 1
@@ -123,7 +136,7 @@ byte-stored s t p j v h l e =
         let k : i - 8 * j < 8 = omega arith in
         ap (bitAt (writeBits t (8 * j) (range s p 8))) d
         ∙ written-bit t (8 * j) (range s p 8) (i - 8 * j) (omega (arith, n)) (omega (arith, n))
-        ∙ range-at s p 8 (i - 8 * j) k ∙ sym (e .bits (i - 8 * j) k) ∙ sym (stored-bit t j v (i - 8 * j) l k) ∙ ap (bitAt (set t j v)) (sym d)
+        ∙ range-at s p 8 (i - 8 * j) k ∙ eight-bit s p v (i - 8 * j) e k ∙ sym (stored-bit t j v (i - 8 * j) l k) ∙ ap (bitAt (set t j v)) (sym d)
 
 -- ---- a copy in two parts; in three, of which the second is whole bytes
 pub copy-parts : (s t : List ℕ) (a at n m : ℕ) → writeBits (writeBits t at (range s a n)) (at + n) (range s (a + n) m) ≡ writeBits t at (range s a (n + m))
@@ -166,3 +179,20 @@ bytes-next s t u a n at i v h l b e g =
     ∙ ap (λ (x : List ℕ). writeBits x (8 * (at + i) + 8) (range s (a + 8 * i + 8) (8 * (n - (i + 1))))) (sym (byte-stored s t (a + 8 * i) (at + i) v b (omega arith) e))
     ∙ copy-parts s t (a + 8 * i) (8 * (at + i)) 8 (8 * (n - (i + 1)))
     ∙ ap (λ (x : ℕ). writeBits t (8 * (at + i)) (range s (a + 8 * i) x)) k ∙ g
+
+-- ---- a function that reads n bytes of bits from bit a on: its start, a turn and its end; and the bits that n bits leave behind their bytes
+pub eight-first : (s : List ℕ) (a n : ℕ) → range s (a + 8 * 0) (8 * (n - 0)) ≡ range s a (8 * n)
+eight-first s a n = ap₂ (range s) (omega arith) (omega arith)
+
+pub eight-next : (s : List ℕ) (a n i v : ℕ) → i < n → Eight s (a + 8 * i) v → range s (a + 8 * i) (8 * (n - i)) ≡ byteBits v ++ range s (a + 8 * (i + 1)) (8 * (n - (i + 1)))
+eight-next s a n i v h e =
+    let k : 8 * (n - i) ≡ 8 + 8 * (n - (i + 1)) = omega arith in
+    let q : a + 8 * i + 8 ≡ a + 8 * (i + 1) = omega arith in
+    ap (range s (a + 8 * i)) k ∙ range-add s (a + 8 * i) 8 (8 * (n - (i + 1)))
+    ∙ ap₂ (λ (x : List Bool) (y : ℕ). x ++ range s y (8 * (n - (i + 1)))) (e .bits) q
+
+pub eight-last : (s : List ℕ) (a n i : ℕ) → n ≤ i → range s (a + 8 * i) (8 * (n - i)) ≡ []
+eight-last s a n i h = let k : 8 * (n - i) ≡ 0 = omega arith in ap (range s (a + 8 * i)) k ∙ range-none s (a + 8 * i)
+
+pub eight-rest : (s : List ℕ) (a n : ℕ) → range s a (8 * (n / 8)) ++ range s (a + 8 * (n / 8)) (n - 8 * (n / 8)) ≡ range s a n
+eight-rest s a n = sym (range-add s a (8 * (n / 8)) (n - 8 * (n / 8))) ∙ ap (range s a) (omega arith)

@@ -3,8 +3,7 @@ ghost use mathlib.Core.Path.{_≡_};
 ghost use mathlib.Core.Bool.{Bool, true, false};
 ghost use Prim.Native.Nat.{ℕ, _+_, _*_, _≤_, _<_};
 ghost use lib.ListN.{length};
-ghost use Rattle.strings.specs.Bits.{bitAt, range, setBit, writeBits, sameBits, cleared, Part};
-ghost use Rattle.strings.specs.ByteLaws.{Eight};
+ghost use Rattle.strings.specs.Bits.{bitAt, range, setBit, writeBits, sameBits, cleared, Part, Eight};
 ghost use Rattle.strings.specs.StringRule.{stringRule};
 ghost use Rattle.strings.specs.Refusals.{refusalNumber};
 
@@ -98,7 +97,7 @@ fn copy_singly(from: &[u8], start: usize, len: usize, to: &mut [u8], at: usize)
 }
 
 // The eight bits from bit p on, as a byte.
-fn eight_bits(s: &[u8], p: usize) -> u8
+pub fn eight_bits(s: &[u8], p: usize) -> u8
     requires { ⌜ p + 8 ≤ 8 * length (now s) ⌝ }
     ensures { λ r. ⌜ Eight (now (s .entry)) p r ⌝ }
 {
