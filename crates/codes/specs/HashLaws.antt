@@ -1,5 +1,5 @@
 -- Laws of the xorshift rows and of the hash, for every width h, every row before the first bit and every length.
-use mathlib.Core.Path.{_≡_, refl, sym, ap, ap₂, _∙_}
+use mathlib.Core.Path.{_≡_, refl, sym, ap, ap₂, _∙_, subst}
 use mathlib.Core.Bool.{Bool, true, false, cond}
 use mathlib.Core.List.{List, [], _∷_, _++_}
 use Prim.Native.Nat.{ℕ, zero, suc, _+_, _*_, _/_, _%_, _^_, _<_, _≤_}
@@ -189,6 +189,9 @@ module _ (x v x′ v′ y w : ℕ) (l m : List Bool) (p : Went x v l x′ v′) 
         ∙ ap₂ (λ (a b : ℕ). bitXor a (wholeHash b m)) (sym (p .sums)) (sym (p .rows));
     rows = q .rows ∙ ap (λ (u : List Bool). row v (length u)) e ∙ ap (row v) (length-append l m) ∙ sym (row-row v (length l) (length m)) ∙ ap (λ (a : ℕ). row a (length m)) (sym (p .rows));
   }
+
+pub went-as : (x v y w : ℕ) (l m : List Bool) → l ≡ m → Went x v l y w → Went x v m y w
+went-as x v y w l m e p = subst (λ (u : List Bool). Went x v u y w) e p
 
 pub went-cut : (h key x v : ℕ) (l : List Bool) → Went 0 key l x v → x % 2 ^ h ≡ hash h key l
 unfolding hash
