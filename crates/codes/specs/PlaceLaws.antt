@@ -18,7 +18,7 @@ use Rattle.codes.specs.Syndrome.{weightedSum, syndrome}
 use Rattle.codes.specs.SyndromeLaws.{weighted-sum-without, ones-next, ones-zeros, syndrome-most}
 use Rattle.codes.specs.Repair.{without, takeOut}
 use Rattle.codes.specs.RepairLaws.{length-without, without-deletion, take-out-unique, take-out-no}
-use Rattle.codes.specs.Place.{ones, zeroPlace, onePlace, lack, putBit, putPlace, firstTake, takePlace, zeroFall, oneFall}
+use Rattle.codes.specs.Place.{ones, zeroPlace, onePlace, lack, rise, putBit, putPlace, firstTake, takePlace, zeroFall, oneFall}
 
 -- ---- the place of a 0
 pub zero-place-stop : (r : ℕ) (l : List Bool) → ones l ≤ r → zeroPlace r l ≡ 0
@@ -49,7 +49,7 @@ one-place-next z l l′ true e h = one-place-one z l l′ e h ∙ ap (λ (x : �
 one-place-next z l l′ false e h = one-place-zero z l l′ e h
 
 -- ---- the bit and the place, from the length n, the sum x, the ones w and the lack d
-pub lack-of : (a : ℕ) (l : List Bool) (n x : ℕ) → length l ≡ n → x ≡ weightedSum 1 l → (a + (n + 2 - x % (n + 2))) % (n + 2) ≡ lack a l
+pub lack-of : (a : ℕ) (l : List Bool) (n x : ℕ) → length l ≡ n → x ≡ weightedSum 1 l → rise n x a ≡ lack a l
 unfolding lack
 lack-of a l n x e f = rw (e, f) refl
 

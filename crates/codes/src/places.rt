@@ -3,19 +3,19 @@ ghost use mathlib.Core.Path.{_≡_};
 ghost use mathlib.Core.Bool.{cond};
 ghost use Prim.Native.Nat.{_+_, _≤_, _<_};
 ghost use Rattle.strings.specs.Bits.{range, Part};
-ghost use Rattle.codes.specs.Place.{ones, zeroPlace, onePlace, lack, zeroFall, oneFall, takePlace};
+ghost use Rattle.codes.specs.Place.{ones, zeroPlace, onePlace, rise, zeroFall, oneFall, takePlace};
 ghost use Rattle.codes.specs.Edits.{putEdit, putRepair, takeRepair, repairEdit};
 use crate::edits::Edit;
 use crate::edits::Repair;
 
-// By how much the weighted sum has to rise for the syndrome a.
-fn lack_of(s: &[u8], start: usize, len: usize, a: usize) -> usize
-    requires { ⌜ Part (now s) start len ⌝ }
+// By how much the weighted sum of len bits has to rise for the syndrome a of one bit more.
+fn lack_of(len: usize, sum: usize, a: usize) -> usize
+    requires { ⌜ len ≤ 65536 ⌝ }
     requires { ⌜ a ≤ len + 1 ⌝ }
-    ensures { λ r. ⌜ r ≡ lack a (range (now (s .entry)) start len) ⌝ }
+    ensures { λ r. ⌜ r ≡ rise len sum a ⌝ }
 {
     let m = len + 2;
-    (a + (m - crate::sums::weighted_sum(s, start, len) % m)) % m
+    (a + (m - sum % m)) % m
 }
 
 // The first place with at most r ones from there on, where the range has w ones.
@@ -59,8 +59,9 @@ fn put_edit(s: &[u8], start: usize, len: usize, a: usize) -> Edit
     requires { ⌜ a ≤ len + 1 ⌝ }
     ensures { λ r. ⌜ r ≡ putEdit a (range (now (s .entry)) start len) ⌝ }
 {
-    let w = crate::sums::count_ones(s, start, len);
-    let d = lack_of(s, start, len, a);
+    let all = crate::sums::sums_of(s, start, len);
+    let w = all.ones;
+    let d = lack_of(len, all.sum, a);
     if d <= w {
         return Edit::Put(zero_place(s, start, len, w, d), false);
     }
@@ -122,9 +123,10 @@ fn take_place(s: &[u8], start: usize, len: usize, a: usize) -> usize
     if len <= a {
         return len;
     }
-    let for_zero = zero_fall(len, crate::sums::weighted_sum(s, start, len), a);
+    let all = crate::sums::sums_of(s, start, len);
+    let for_zero = zero_fall(len, all.sum, a);
     let for_one = one_fall(len, for_zero);
-    let mut right = crate::sums::count_ones(s, start, len);
+    let mut right = all.ones;
     let mut i: usize = 0;
     while i < len {
         let b = strings::get_bit(s, start + i);

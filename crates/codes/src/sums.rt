@@ -110,7 +110,7 @@ fn sum_singly(s: &[u8], start: usize, len: usize) -> Sums
 }
 
 // The ones of a range and its weighted sum: the bits behind its bytes, and the bytes.
-fn sums_of(s: &[u8], start: usize, len: usize) -> Sums
+pub fn sums_of(s: &[u8], start: usize, len: usize) -> Sums
     requires { ⌜ Part (now s) start len ⌝ }
     ensures { λ r. ⌜ Grows (range (now (s .entry)) start len) 0 0 (r .ones) (r .sum) ⌝ }
 {

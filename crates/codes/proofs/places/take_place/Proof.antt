@@ -8,7 +8,7 @@ use Rattle.strings.specs.RangeLaws.{rest, rest-first, rest-is, range-length}
 use Rattle.codes.specs.Syndrome.{syndrome}
 use Rattle.codes.specs.Repair.{without}
 use Rattle.codes.specs.Place.{ones, firstTake, takePlace}
-use Rattle.codes.specs.SyndromeLaws.{ones-next}
+use Rattle.codes.specs.SyndromeLaws.{ones-next, grows-whole}
 use Rattle.codes.specs.PlaceLaws.{ones-most, take-test, first-take-here, first-take-next, first-take-end, take-place-is, take-place-above}
 use borrow.Author.Tests.{eqb-true, eqb-false}
 use borrow.Author.Needs.{needs}
@@ -24,8 +24,8 @@ abbrev μ-loop : tie.MeasureT-loop
 returns : tie.Need-returns Inv-loop μ-loop
 returns c = take-place-above (c .before .before .args .a) (range (c .before .before .args .s .now) (c .before .before .args .start) (c .before .before .args .len)) (c .before .before .args .len) (range-length _ _ _) (c .if1 .taken)
 
-weighted-sum-requires : tie.Need-weighted-sum-requires Inv-loop μ-loop
-weighted-sum-requires c κs = search needs
+sums-of-requires : tie.Need-sums-of-requires Inv-loop μ-loop
+sums-of-requires c κs = search needs
 
 zero-fall-requires : tie.Need-zero-fall-requires Inv-loop μ-loop
 zero-fall-requires c κs = search needs
@@ -33,13 +33,10 @@ zero-fall-requires c κs = search needs
 one-fall-requires : tie.Need-one-fall-requires Inv-loop μ-loop
 one-fall-requires c κs = search needs
 
-count-ones-requires : tie.Need-count-ones-requires Inv-loop μ-loop
-count-ones-requires c κs = search needs
-
 loop-holds : tie.Need-loop-holds Inv-loop μ-loop
-loop-holds c = let args = c .before .before .before .before .before .before .args in (
+loop-holds c = let args = c .before .before .before .before .before .args in (
   search needs,
-  c .count-ones .ensures ∙ sym (ap ones (rest-first (args .s .now) (args .start) (args .len))),
+  grows-whole (range (args .s .now) (args .start) (args .len)) _ _ (c .before .before .sums-of .ensures) .0 ∙ sym (ap ones (rest-first (args .s .now) (args .start) (args .len))),
   take-place-is (args .a) (range (args .s .now) (args .start) (args .len)) (args .len) (range-length _ _ _),
 )
 
@@ -50,22 +47,23 @@ get-bit-requires : tie.Need-get-bit-requires Inv-loop μ-loop
 get-bit-requires c κs = search needs
 
 add-for-bit : tie.Need-add-for-bit Inv-loop μ-loop
-add-for-bit c = let m = ones-most (c .before .before .before .before .before .before .before .before .before .args .s .now) (c .before .before .before .before .before .before .before .before .before .args .start) (c .before .before .before .before .before .before .before .before .before .args .len) (c .before .before .loop .i) in omega arith
+add-for-bit c = let m = ones-most (c .before .before .before .before .before .before .before .before .args .s .now) (c .before .before .before .before .before .before .before .before .args .start) (c .before .before .before .before .before .before .before .before .args .len) (c .before .before .loop .i) in omega arith
 
 for-bit-requires : tie.Need-for-bit-requires Inv-loop μ-loop
 for-bit-requires c κs = search needs
 
 -- what a turn's test found
 found : (c : tie.After-for-bit Inv-loop μ-loop)
-    → let args = c .before .before .before .before .before .before .before .before .before .before .args in
+    → let args = c .before .before .before .before .before .before .before .before .before .args in
     c .for-bit .result ≡ eqb (syndrome (without (c .before .before .before .loop .i) (range (args .s .now) (args .start) (args .len)))) (args .a)
 found c =
-    let args = c .before .before .before .before .before .before .before .before .before .before .args in
+    let args = c .before .before .before .before .before .before .before .before .before .args in
     let loop = c .before .before .before .loop in
-    take-test (args .s .now) (args .start) (args .len) (args .a) (loop .i) (c .before .before .before .before .before .before .before .weighted-sum .result) (loop .right) (c .before .get-bit .result) (c .before .before .loop-test .taken) (c .before .before .before .before .before .before .before .before .if1 .left) (c .before .get-bit .ensures) (c .before .before .before .before .before .before .before .weighted-sum .ensures) (loop .inv .1) (c .for-bit .result) (c .before .before .before .before .before .before .zero-fall .result) (c .before .before .before .before .before .one-fall .result) (c .before .before .before .before .before .before .zero-fall .ensures) (c .before .before .before .before .before .one-fall .ensures) (c .for-bit .ensures)
+    let sum = grows-whole (range (args .s .now) (args .start) (args .len)) _ _ (c .before .before .before .before .before .before .sums-of .ensures) .1 in
+    take-test (args .s .now) (args .start) (args .len) (args .a) (loop .i) (c .before .before .before .before .before .before .sums-of .result .sum) (loop .right) (c .before .get-bit .result) (c .before .before .loop-test .taken) (c .before .before .before .before .before .before .before .if1 .left) (c .before .get-bit .ensures) sum (loop .inv .1) (c .for-bit .result) (c .before .before .before .before .before .zero-fall .result) (c .before .before .before .before .one-fall .result) (c .before .before .before .before .before .zero-fall .ensures) (c .before .before .before .before .one-fall .ensures) (c .for-bit .ensures)
 
 returns-2 : tie.Need-returns-2 Inv-loop μ-loop
-returns-2 c = let args = c .before .before .before .before .before .before .before .before .before .before .before .args in
+returns-2 c = let args = c .before .before .before .before .before .before .before .before .before .before .args in
     let loop = c .before .before .before .before .loop in
     let bits = range (args .s .now) (args .start) (args .len) in
     sym (first-take-here (args .a) bits (args .len) (loop .i) (c .before .before .before .loop-test .taken) (eqb-true (syndrome (without (loop .i) bits)) (args .a) (sym (found (c .before)) ∙ c .if2 .taken))) ∙ loop .inv .2
@@ -75,7 +73,7 @@ cast-right c = search needs
 
 sub-right : tie.Need-sub-right Inv-loop μ-loop
 sub-right c = let b = c .before .before .get-bit .result in
-    let o = ones-next _ _ b (rest-is (c .before .before .before .before .before .before .before .before .before .before .before .args .s .now) (c .before .before .before .before .before .before .before .before .before .before .before .args .start) (c .before .before .before .before .before .before .before .before .before .before .before .args .len) (c .before .before .before .before .loop .i) b b (c .before .before .before .loop-test .taken) (c .before .before .get-bit .ensures) refl) in omega arith
+    let o = ones-next _ _ b (rest-is (c .before .before .before .before .before .before .before .before .before .before .args .s .now) (c .before .before .before .before .before .before .before .before .before .before .args .start) (c .before .before .before .before .before .before .before .before .before .before .args .len) (c .before .before .before .before .loop .i) b b (c .before .before .before .loop-test .taken) (c .before .before .get-bit .ensures) refl) in omega arith
 
 add-i : tie.Need-add-i Inv-loop μ-loop
 add-i c = search needs
@@ -84,7 +82,7 @@ loop-less : tie.Need-loop-less Inv-loop μ-loop
 loop-less c = search needs
 
 loop-again : tie.Need-loop-again Inv-loop μ-loop
-loop-again c = let args = c .before .before .before .before .before .before .before .before .before .before .before .args in
+loop-again c = let args = c .before .before .before .before .before .before .before .before .before .before .args in
     let loop = c .before .before .before .before .loop in
     let b = c .before .before .get-bit .result in
     let bits = range (args .s .now) (args .start) (args .len) in
@@ -95,7 +93,7 @@ loop-again c = let args = c .before .before .before .before .before .before .bef
     )
 
 returns-3 : tie.Need-returns-3 Inv-loop μ-loop
-returns-3 c = sym (first-take-end (c .before .before .before .before .before .before .before .before .args .a) (range (c .before .before .before .before .before .before .before .before .args .s .now) (c .before .before .before .before .before .before .before .before .args .start) (c .before .before .before .before .before .before .before .before .args .len)) (c .before .before .before .before .before .before .before .before .args .len) (c .before .loop .i) (c .loop-test .left)) ∙ c .before .loop .inv .2
+returns-3 c = sym (first-take-end (c .before .before .before .before .before .before .before .args .a) (range (c .before .before .before .before .before .before .before .args .s .now) (c .before .before .before .before .before .before .before .args .start) (c .before .before .before .before .before .before .before .args .len)) (c .before .before .before .before .before .before .before .args .len) (c .before .loop .i) (c .loop-test .left)) ∙ c .before .loop .inv .2
 
 pub take-place-spec : {M : Type 1} → statement M
 take-place-spec =
@@ -104,10 +102,9 @@ take-place-spec =
     Inv-loop
     μ-loop
     returns
-    weighted-sum-requires
+    sums-of-requires
     zero-fall-requires
     one-fall-requires
-    count-ones-requires
     loop-holds
     add-get-bit
     get-bit-requires
