@@ -4,23 +4,25 @@ use mathlib.Core.Bool.{Bool, true, false, cond}
 use mathlib.Core.Logic.{_⊎_, inl, inr}
 use mathlib.Core.List.{List, [], _∷_, _++_}
 use mathlib.Core.Option.{none, some}
-use Prim.Native.Nat.{ℕ, suc, _+_, _-_, _≤_, _<_}
+use Prim.Native.Nat.{ℕ, suc, _+_, _-_, _%_, _^_, _≤_, _<_}
 use native.Mathlib.Nat.{zero-add}
-use native.Mathlib.Numerals.{add-one}
 use native.Mathlib.Decide.{decLt, decLe}
 use native.Mathlib.Omega.{arith}
-use lib.ListN.{length, take, drop, getD, length-drop, List·getD-append}
-use lib.Seq.{length-take-le, getD-take, getD-drop, getD-append-add, drop-cons, sets, sets-eq}
+use lib.ListN.{length, take, drop, getD, List·getD-append}
+use lib.Seq.{length-take-le, getD-take, getD-drop, getD-append-add, sets, sets-eq}
 use lib.Dec.{eqb, leb, ltb}
 use borrow.Author.Tests.{le-leb, lt-leb, lt-ltb, le-ltb, ltb-true, eq-eqb, ne-eqb}
 use Rattle.strings.specs.Bits.{bitAt, range, bytesFor, setBit, writeBits, cleared, pack}
 use Rattle.strings.specs.PackLaws.{length-pack, write-cleared}
-use Rattle.strings.specs.RangeLaws.{range-length, range-at}
-use Rattle.strings.specs.WriteLaws.{write-none, write-next}
+use Rattle.strings.specs.RangeLaws.{range-length, range-at, range-take, range-drop}
+use Rattle.strings.specs.WriteLaws.{write-next, write-append}
 use Rattle.codes.specs.Repair.{without, insertAt, putIn, takeOut, repairTo}
 use Rattle.codes.specs.RepairLaws.{length-insert, length-without, put-place-within, put-in-filled, put-in-above}
 use Rattle.codes.specs.Place.{ones, zeroPlace, onePlace, lack, putPlace, putBit, filled, takePlace}
 use Rattle.codes.specs.PlaceLaws.{put-zero, put-one, take-place-found, take-place-none}
+use Rattle.codes.specs.Hash.{hash}
+use Rattle.codes.specs.HashForms.{Went}
+use Rattle.codes.specs.HashLaws.{went-on, went-cut}
 use Rattle.codes.specs.Edits.{edited, Fits, packedInto, putEdit, putRepair, takeRepair, repairEdit, repaired}
 use Rattle.codes.specs.declared.edits.Edit.{Edit}
 use Rattle.codes.specs.declared.edits.Edit.the-variants.{Keep, Put, Take}
@@ -154,27 +156,54 @@ repair-found n a l r e f g = sym (repair-edit n a l) ∙ ap (λ (x : Repair). re
 pub repair-nothing : (n a : ℕ) (l : List Bool) (r : Repair) → r ≡ repairEdit n a l → r ≡ Nothing → repairTo n a l ≡ none
 repair-nothing n a l r f g = sym (repair-edit n a l) ∙ ap (λ (x : Repair). repaired x l) (sym f ∙ g)
 
--- ---- passing over an edited range by its bits
-pub left-next : (l : List Bool) (n i : ℕ) (b y : Bool) → length l ≡ n → i < n → b ≡ getD l i false → b ≡ y → drop i l ≡ y ∷ drop (i + 1) l
-left-next l n i b y h k e f = rw add-one (drop-cons l i false (omega arith) ∙ ap (λ (x : Bool). x ∷ drop (suc i) l) (sym e ∙ f))
+-- ---- an edited range in parts, and what is made of its parts: a copy and a hash
+module _ (s : List ℕ) (start len i : ℕ) where
+  put-parts : (b : Bool) → i ≤ len → insertAt i b (range s start len) ≡ range s start i ++ (b ∷ range s (start + i) (len - i))
+  put-parts b h = ap₂ (λ (x y : List Bool). x ++ (b ∷ y)) (range-take s start len i h) (range-drop s start len i h)
 
-pub left-last : (l : List Bool) (n i : ℕ) → length l ≡ n → n ≤ i → drop i l ≡ []
-left-last l n i h k = empty (drop i l) (let d = length-drop i l in omega arith)
-  where
-    empty : (x : List Bool) → length x ≡ 0 → x ≡ []
-    empty [] e = refl
-    empty (a ∷ x) e = absurd (omega arith)
+  take-parts : i < len → without i (range s start len) ≡ range s start i ++ range s (start + i + 1) (len - i - 1)
+  take-parts h =
+      let p : start + suc i ≡ start + i + 1 = omega arith in
+      let q : len - suc i ≡ len - i - 1 = omega arith in
+      ap₂ (λ (x y : List Bool). x ++ y) (range-take s start len i (omega arith)) (range-drop s start len (suc i) (omega arith) ∙ ap₂ (range s) p q)
 
-pub write-left : (t s : List ℕ) (at i : ℕ) (l : List Bool) (b : Bool) → drop i l ≡ b ∷ drop (i + 1) l → writeBits t (at + i) (drop i l) ≡ s
-    → writeBits (setBit t (at + i) b) (at + (i + 1)) (drop (i + 1) l) ≡ s
-write-left t s at i l b e h =
-    let n : at + (i + 1) ≡ at + i + 1 = omega arith in
-    rw n (sym (write-next t (at + i) b (drop (i + 1) l)) ∙ sym (ap (writeBits t (at + i)) e) ∙ h)
+  -- bits written behind the first i
+  write-behind : (t : List ℕ) (at : ℕ) (l : List Bool) → writeBits (writeBits t at (range s start i)) (at + i) l ≡ writeBits t at (range s start i ++ l)
+  write-behind t at l =
+      ap (λ (n : ℕ). writeBits (writeBits t at (range s start i)) (at + n) l) (sym (range-length s start i)) ∙ sym (write-append t at (range s start i) l)
 
-pub write-done : (t s : List ℕ) (at i : ℕ) (l : List Bool) → drop i l ≡ [] → writeBits t (at + i) (drop i l) ≡ s → t ≡ s
-write-done t s at i l e h = sym (write-none t (at + i)) ∙ sym (ap (writeBits t (at + i)) e) ∙ h
+  pub put-copied : (t t₁ t₂ t₃ : List ℕ) (at : ℕ) (b : Bool) → i ≤ len → t₁ ≡ writeBits t at (range s start i) → t₂ ≡ setBit t₁ (at + i) b
+      → t₃ ≡ writeBits t₂ (at + i + 1) (range s (start + i) (len - i)) → t₃ ≡ writeBits t at (insertAt i b (range s start len))
+  put-copied t t₁ t₂ t₃ at b h e f g =
+      g ∙ ap (λ (x : List ℕ). writeBits x (at + i + 1) (range s (start + i) (len - i))) (f ∙ ap (λ (x : List ℕ). setBit x (at + i) b) e)
+      ∙ sym (write-next (writeBits t at (range s start i)) (at + i) b (range s (start + i) (len - i)))
+      ∙ write-behind t at (b ∷ range s (start + i) (len - i)) ∙ ap (writeBits t at) (sym (put-parts b h))
+
+  pub take-copied : (t t₁ t₂ : List ℕ) (at : ℕ) → i < len → t₁ ≡ writeBits t at (range s start i)
+      → t₂ ≡ writeBits t₁ (at + i) (range s (start + i + 1) (len - i - 1)) → t₂ ≡ writeBits t at (without i (range s start len))
+  take-copied t t₁ t₂ at h e f =
+      f ∙ ap (λ (x : List ℕ). writeBits x (at + i) (range s (start + i + 1) (len - i - 1))) e
+      ∙ write-behind t at (range s (start + i + 1) (len - i - 1)) ∙ ap (writeBits t at) (sym (take-parts h))
+
+  module _ (h key x v : ℕ) (p : Went 0 key (range s start i) x v) where
+    pub put-hashed : (x₁ v₁ x₂ v₂ : ℕ) (b : Bool) → i ≤ len → Went x v (b ∷ []) x₁ v₁ → Went x₁ v₁ (range s (start + i) (len - i)) x₂ v₂
+        → x₂ % 2 ^ h ≡ hash h key (insertAt i b (range s start len))
+    put-hashed x₁ v₁ x₂ v₂ b l q r =
+        let behind = range s (start + i) (len - i) in
+        went-cut h key x₂ v₂ (range s start i ++ (b ∷ range s (start + i) (len - i)))
+        (went-on 0 key x v x₂ v₂ (range s start i) (b ∷ behind) p (went-on x v x₁ v₁ x₂ v₂ (b ∷ []) behind q r))
+        ∙ ap (hash h key) (sym (put-parts b l))
+
+    pub take-hashed : (x₁ v₁ : ℕ) → i < len → Went x v (range s (start + i + 1) (len - i - 1)) x₁ v₁ → x₁ % 2 ^ h ≡ hash h key (without i (range s start len))
+    take-hashed x₁ v₁ l q =
+        went-cut h key x₁ v₁ (range s start i ++ range s (start + i + 1) (len - i - 1))
+        (went-on 0 key x v x₁ v₁ (range s start i) (range s (start + i + 1) (len - i - 1)) p q)
+        ∙ ap (hash h key) (sym (take-parts l))
 
 -- ---- what the arms of a match on the edit know
+pub edited-as : (e x : Edit) (l : List Bool) → e ≡ x → edited x l ≡ edited e l
+edited-as e x l h = ap (λ (z : Edit). edited z l) (sym h)
+
 module _ (e : Edit) (len n : ℕ) (f : Fits e len n) where
   pub as-keep : e ≡ Keep → n ≡ len
   as-keep h = subst (λ (x : Edit). Fits x len n) h f
@@ -184,6 +213,9 @@ module _ (e : Edit) (len n : ℕ) (f : Fits e len n) where
 
   pub as-take : (i : ℕ) → e ≡ Take i → (i < len) × (len ≡ n + 1)
   as-take i h = subst (λ (x : Edit). Fits x len n) h f
+
+  pub edited-keep : (s : List ℕ) (start : ℕ) → e ≡ Keep → range s start n ≡ edited e (range s start len)
+  edited-keep s start h = ap (range s start) (as-keep h) ∙ ap (λ (x : Edit). edited x (range s start len)) (sym h)
 
   -- r is bit j of the edited range
   module _ (s : List ℕ) (start j : ℕ) (k : j < n) where

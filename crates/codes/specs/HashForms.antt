@@ -1,7 +1,9 @@
 -- Other forms of the hash. HashLaws has that they are equal to it.
+use mathlib.Core.Path.{_≡_}
 use mathlib.Core.Bool.{Bool, cond}
 use mathlib.Core.List.{List, [], _∷_}
 use Prim.Native.Nat.{ℕ, suc, _%_, _^_}
+use lib.ListN.{length}
 use lib.Bits.{bitXor}
 use Rattle.codes.specs.Hash.{step, row}
 
@@ -14,3 +16,8 @@ hashRows h key i (b ∷ l) = bitXor (cond b (row key i % 2 ^ h) 0) (hashRows h k
 unfoldable pub wholeHash : ℕ → List Bool → ℕ
 wholeHash v [] = 0
 wholeHash v (b ∷ l) = bitXor (cond b (step v) 0) (wholeHash (step v) l)
+
+-- a hash under way, with the xor x of the rows so far and the row v of the last bit, has gone on over the bits l to x′ and v′
+pub record Went (x v : ℕ) (l : List Bool) (x′ v′ : ℕ) : Type 0 where
+  pub sums : x′ ≡ bitXor x (wholeHash v l)
+  pub rows : v′ ≡ row v (length l)

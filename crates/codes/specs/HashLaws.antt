@@ -1,19 +1,19 @@
 -- Laws of the xorshift rows and of the hash, for every width h, every row before the first bit and every length.
-use mathlib.Core.Path.{_≡_, refl, sym, ap, ap₂, _∙_}
+use mathlib.Core.Path.{_≡_, refl, sym, ap, ap₂, _∙_, subst}
 use mathlib.Core.Bool.{Bool, true, false, cond}
 use mathlib.Core.List.{List, [], _∷_, _++_}
 use Prim.Native.Nat.{ℕ, zero, suc, _+_, _*_, _/_, _%_, _^_, _<_, _≤_}
 use native.Mathlib.Nat.{mod-lt, mod-eq-of-lt, one-mul, zero-mod, add-zero, add-suc}
 use native.Mathlib.Omega.{arith}
 use lib.Arith.{bin-ind}
-use lib.ListN.{length, take, drop}
+use lib.ListN.{length, take, drop, length-append}
 use lib.Seq.{length-take-le}
 use lib.Pow.{pow-lt, pow-pos, shr-le}
 use lib.Bits.{bitXor, differ, xor-shr, xor-step, xor-zero-l, xor-zero-r, xor-lt, xor-mod}
 use Rattle.strings.specs.BitLaws.{xor-odd}
 use Rattle.codes.specs.Repair.{without, insertAt}
 use Rattle.codes.specs.Hash.{xorLeft, xorRight, step, row, hashFrom, hash}
-use Rattle.codes.specs.HashForms.{hashRows, wholeHash}
+use Rattle.codes.specs.HashForms.{hashRows, wholeHash, Went}
 
 -- ---- xor is associative
 xor-half : (a b : ℕ) → bitXor a b / 2 ≡ bitXor (a / 2) (b / 2)
@@ -150,26 +150,52 @@ hash-whole h v [] = sym (zero-mod (2 ^ h))
 hash-whole h v (b ∷ l) =
     ap₂ bitXor (cut-whole h b (step v)) (hash-whole h (step v) l) ∙ sym (xor-mod (cond b (step v) 0) (wholeHash (step v) l) h)
 
--- the steps of a function that passes over the bits: acc is the xor so far, v the row of the last bit read; after one bit more they are acc′ and v′
-module _ (v v′ acc acc′ t : ℕ) (l l′ : List Bool) (n : v′ ≡ step v) where
-  pub whole-one : acc′ ≡ bitXor acc v′ → l ≡ true ∷ l′ → bitXor acc (wholeHash v l) ≡ t → bitXor acc′ (wholeHash v′ l′) ≡ t
-  unfolding wholeHash
-  whole-one f e g = rw (f, n) (xor-assoc acc (step v) (wholeHash (step v) l′) ∙ (rw e at g))
+-- over ++: the second part goes on with the rows behind the first
+whole-append : (v : ℕ) (l m : List Bool) → wholeHash v (l ++ m) ≡ bitXor (wholeHash v l) (wholeHash (row v (length l)) m)
+unfolding wholeHash row
+whole-append v [] m = sym (xor-zero-l (wholeHash v m))
+whole-append v (b ∷ l) m =
+    ap (bitXor (cond b (step v) 0)) (whole-append (step v) l m ∙ ap (λ (x : ℕ). bitXor (wholeHash (step v) l) (wholeHash x m)) (row-shift v (length l)))
+    ∙ sym (xor-assoc (cond b (step v) 0) (wholeHash (step v) l) (wholeHash (row v (suc (length l))) m))
 
-  pub whole-zero : acc′ ≡ acc → l ≡ false ∷ l′ → bitXor acc (wholeHash v l) ≡ t → bitXor acc′ (wholeHash v′ l′) ≡ t
-  unfolding wholeHash
-  whole-zero f e g = rw (f, n) (sym (ap (bitXor acc) (xor-zero-l (wholeHash (step v) l′))) ∙ (rw e at g))
+-- ---- a hash under way
+pub went-first : (x v : ℕ) (l m : List Bool) → l ≡ m → Went x v l (bitXor x (wholeHash v m)) (row v (length m))
+went-first x v l m e = record { sums = ap (λ (u : List Bool). bitXor x (wholeHash v u)) (sym e); rows = ap (λ (u : List Bool). row v (length u)) (sym e) }
 
-pub whole-first : (v : ℕ) (l : List Bool) → bitXor 0 (wholeHash v l) ≡ wholeHash v l
-whole-first v l = xor-zero-l (wholeHash v l)
+pub went-last : (x v y w : ℕ) (l : List Bool) → l ≡ [] → Went x v l y w → (x ≡ y) × (v ≡ w)
+unfolding wholeHash row
+went-last x v y w l e p =
+    (sym (p .sums ∙ ap (λ (u : List Bool). bitXor x (wholeHash v u)) e ∙ xor-zero-r x), sym (p .rows ∙ ap (λ (u : List Bool). row v (length u)) e))
 
-pub whole-last : (v acc t : ℕ) (l : List Bool) → l ≡ [] → bitXor acc (wholeHash v l) ≡ t → acc ≡ t
-unfolding wholeHash
-whole-last v acc t l e g = sym (xor-zero-r acc) ∙ (rw e at g)
+pub went-bit : (x v x′ v′ : ℕ) (b : Bool) → x′ ≡ bitXor x (cond b v′ 0) → v′ ≡ step v → Went x v (b ∷ []) x′ v′
+unfolding wholeHash row
+went-bit x v x′ v′ b e f =
+    record { sums = e ∙ ap (λ (u : ℕ). bitXor x (cond b u 0)) f ∙ ap (bitXor x) (sym (xor-zero-r (cond b (step v) 0))); rows = f }
 
-pub whole-cut : (h key acc : ℕ) (l : List Bool) → acc ≡ wholeHash key l → acc % 2 ^ h ≡ hash h key l
+module _ (x v x′ v′ y w : ℕ) (l m : List Bool) (p : Went x v l x′ v′) where
+  pub went-on : Went x′ v′ m y w → Went x v (l ++ m) y w
+  went-on q = record {
+    sums =
+        q .sums ∙ ap₂ (λ (a b : ℕ). bitXor a (wholeHash b m)) (p .sums) (p .rows) ∙ xor-assoc x (wholeHash v l) (wholeHash (row v (length l)) m)
+        ∙ ap (bitXor x) (sym (whole-append v l m));
+    rows = q .rows ∙ ap (λ (a : ℕ). row a (length m)) (p .rows) ∙ row-row v (length l) (length m) ∙ ap (row v) (sym (length-append l m));
+  }
+
+  -- what a loop keeps: it has gone over l, the first of the bits k that lead to y and w, and m is left
+  pub went-next : (k : List Bool) → k ≡ l ++ m → Went x v k y w → Went x′ v′ m y w
+  went-next k e q = record {
+    sums =
+        q .sums ∙ ap (λ (u : List Bool). bitXor x (wholeHash v u)) e ∙ ap (bitXor x) (whole-append v l m) ∙ sym (xor-assoc x (wholeHash v l) (wholeHash (row v (length l)) m))
+        ∙ ap₂ (λ (a b : ℕ). bitXor a (wholeHash b m)) (sym (p .sums)) (sym (p .rows));
+    rows = q .rows ∙ ap (λ (u : List Bool). row v (length u)) e ∙ ap (row v) (length-append l m) ∙ sym (row-row v (length l) (length m)) ∙ ap (λ (a : ℕ). row a (length m)) (sym (p .rows));
+  }
+
+pub went-as : (x v y w : ℕ) (l m : List Bool) → l ≡ m → Went x v l y w → Went x v m y w
+went-as x v y w l m e p = subst (λ (u : List Bool). Went x v u y w) e p
+
+pub went-cut : (h key x v : ℕ) (l : List Bool) → Went 0 key l x v → x % 2 ^ h ≡ hash h key l
 unfolding hash
-whole-cut h key acc l e = ap (λ (x : ℕ). x % 2 ^ h) e ∙ sym (hash-whole h key l)
+went-cut h key x v l p = ap (λ (u : ℕ). u % 2 ^ h) (p .sums ∙ xor-zero-l (wholeHash key l)) ∙ sym (hash-whole h key l)
 
 -- 1 shifted left by h in 64 bits
 pub one-shifted : (h : ℕ) → h ≤ 32 → (1 * 2 ^ h) % 2 ^ 64 ≡ 2 ^ h

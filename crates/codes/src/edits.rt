@@ -1,11 +1,12 @@
-// A range with one bit put in or taken out. Its bits, its hash and its copy come from one function, so that nothing is written before it
-// is known that the edit is the answer.
+// A range with one bit put in or taken out: its bits, its hash and its copy. The hash is taken of the edited range in place, so that
+// nothing is written before it is known that the edit is the answer.
 ghost use mathlib.Core.Path.{_≡_};
 ghost use mathlib.Core.Bool.{false};
-ghost use Prim.Native.Nat.{_≤_, _<_};
+ghost use Prim.Native.Nat.{_+_, _-_, _≤_, _<_};
 ghost use lib.ListN.{length, getD};
 ghost use Rattle.strings.specs.Bits.{range, writeBits, bytesFor, Part};
 ghost use Rattle.codes.specs.Hash.{hash};
+ghost use Rattle.codes.specs.Repair.{without, insertAt};
 ghost use Rattle.codes.specs.Edits.{edited, Editable, packedInto};
 
 // What is done to a range: nothing; a bit put in at a place; the bit at a place taken out.
@@ -47,37 +48,77 @@ pub fn edit_bit(s: &[u8], start: usize, len: usize, e: Edit, n: usize, j: usize)
     }
 }
 
-// The hash of the edited range.
+// The hash of the range with bit b put in at place i.
+fn hash_put(s: &[u8], start: usize, len: usize, i: usize, b: bool, key: u32, h: u32) -> u32
+    requires { ⌜ Part (now s) start len ⌝ }
+    requires { ⌜ i ≤ len ⌝ }
+    requires { ⌜ h ≤ 32 ⌝ }
+    ensures { λ r. ⌜ r ≡ hash h key (insertAt i b (range (now (s .entry)) start len)) ⌝ }
+{
+    let before = crate::rows::hash_on(s, start, i, 0, key);
+    let here = crate::rows::hash_bit(b, before.sum, before.row);
+    let behind = crate::rows::hash_on(s, start + i, len - i, here.sum, here.row);
+    crate::rows::low_bits(behind.sum, h)
+}
+
+// The hash of the range with the bit at place i taken out.
+fn hash_take(s: &[u8], start: usize, len: usize, i: usize, key: u32, h: u32) -> u32
+    requires { ⌜ Part (now s) start len ⌝ }
+    requires { ⌜ i < len ⌝ }
+    requires { ⌜ h ≤ 32 ⌝ }
+    ensures { λ r. ⌜ r ≡ hash h key (without i (range (now (s .entry)) start len)) ⌝ }
+{
+    let before = crate::rows::hash_on(s, start, i, 0, key);
+    let behind = crate::rows::hash_on(s, start + i + 1, len - i - 1, before.sum, before.row);
+    crate::rows::low_bits(behind.sum, h)
+}
+
+// The hash of the edited range, which has n bits.
 pub fn hash_edited(s: &[u8], start: usize, len: usize, e: Edit, n: usize, key: u32, h: u32) -> u32
     requires { ⌜ Editable (now s) start len e n ⌝ }
     requires { ⌜ h ≤ 32 ⌝ }
     ensures { λ r. ⌜ r ≡ hash h key (edited e (range (now (s .entry)) start len)) ⌝ }
 {
-    let mut acc: u32 = 0;
-    let mut v = key;
-    let mut i: usize = 0;
-    while i < n {
-        let row = crate::rows::step(v);
-        if edit_bit(s, start, len, e, n, i) {
-            acc = acc ^ row;
-        }
-        v = row;
-        i += 1;
+    match e {
+        Edit::Keep => crate::rows::hash_of(s, start, n, key, h),
+        Edit::Put(i, b) => hash_put(s, start, len, i, b, key, h),
+        Edit::Take(i) => hash_take(s, start, len, i, key, h),
     }
-    crate::rows::low_bits(acc, h)
 }
 
-// The edited range is written into `to` from place `at` on.
+// The range with bit b put in at place i is written into `to` from place `at` on.
+fn copy_put(s: &[u8], start: usize, len: usize, i: usize, b: bool, to: &mut [u8], at: usize)
+    requires { ⌜ Part (now s) start len ⌝ }
+    requires { ⌜ i ≤ len ⌝ }
+    requires { ⌜ Part (now to) at (len + 1) ⌝ }
+    ensures { λ r. ⌜ now (to .exit) ≡ writeBits (now (to .entry)) at (insertAt i b (range (now (s .entry)) start len)) ⌝ }
+{
+    strings::copy_bits(s, start, i, to, at);
+    strings::set_bit(to, at + i, b);
+    strings::copy_bits(s, start + i, len - i, to, at + i + 1);
+}
+
+// The range with the bit at place i taken out is written into `to` from place `at` on.
+fn copy_take(s: &[u8], start: usize, len: usize, i: usize, to: &mut [u8], at: usize)
+    requires { ⌜ Part (now s) start len ⌝ }
+    requires { ⌜ i < len ⌝ }
+    requires { ⌜ Part (now to) at (len - 1) ⌝ }
+    ensures { λ r. ⌜ now (to .exit) ≡ writeBits (now (to .entry)) at (without i (range (now (s .entry)) start len)) ⌝ }
+{
+    strings::copy_bits(s, start, i, to, at);
+    strings::copy_bits(s, start + i + 1, len - i - 1, to, at + i);
+}
+
+// The edited range, which has n bits, is written into `to` from place `at` on.
 pub fn copy_edited(s: &[u8], start: usize, len: usize, e: Edit, n: usize, to: &mut [u8], at: usize)
     requires { ⌜ Editable (now s) start len e n ⌝ }
     requires { ⌜ Part (now to) at n ⌝ }
     ensures { λ r. ⌜ now (to .exit) ≡ writeBits (now (to .entry)) at (edited e (range (now (s .entry)) start len)) ⌝ }
 {
-    let mut i: usize = 0;
-    while i < n {
-        let b = edit_bit(s, start, len, e, n, i);
-        strings::set_bit(to, at + i, b);
-        i += 1;
+    match e {
+        Edit::Keep => strings::copy_bits(s, start, n, to, at),
+        Edit::Put(i, b) => copy_put(s, start, len, i, b, to, at),
+        Edit::Take(i) => copy_take(s, start, len, i, to, at),
     }
 }
 

@@ -1,20 +1,21 @@
 // The place of the bit to put in or take out, found from the weighted sum and the count of ones.
 ghost use mathlib.Core.Path.{_≡_};
-ghost use Prim.Native.Nat.{_+_, _≤_};
+ghost use mathlib.Core.Bool.{cond};
+ghost use Prim.Native.Nat.{_+_, _≤_, _<_};
 ghost use Rattle.strings.specs.Bits.{range, Part};
-ghost use Rattle.codes.specs.Place.{ones, zeroPlace, onePlace, lack, takePlace};
+ghost use Rattle.codes.specs.Place.{ones, zeroPlace, onePlace, rise, zeroFall, oneFall, takePlace};
 ghost use Rattle.codes.specs.Edits.{putEdit, putRepair, takeRepair, repairEdit};
 use crate::edits::Edit;
 use crate::edits::Repair;
 
-// By how much the weighted sum has to rise for the syndrome a.
-fn lack_of(s: &[u8], start: usize, len: usize, a: usize) -> usize
-    requires { ⌜ Part (now s) start len ⌝ }
+// By how much the weighted sum of len bits has to rise for the syndrome a of one bit more.
+fn lack_of(len: usize, sum: usize, a: usize) -> usize
+    requires { ⌜ len ≤ 65536 ⌝ }
     requires { ⌜ a ≤ len + 1 ⌝ }
-    ensures { λ r. ⌜ r ≡ lack a (range (now (s .entry)) start len) ⌝ }
+    ensures { λ r. ⌜ r ≡ rise len sum a ⌝ }
 {
     let m = len + 2;
-    (a + (m - crate::sums::weighted_sum(s, start, len) % m)) % m
+    (a + (m - sum % m)) % m
 }
 
 // The first place with at most r ones from there on, where the range has w ones.
@@ -29,9 +30,7 @@ fn zero_place(s: &[u8], start: usize, len: usize, w: usize, r: usize) -> usize
         if right <= r {
             return i;
         }
-        if strings::get_bit(s, start + i) {
-            right -= 1;
-        }
+        right -= strings::get_bit(s, start + i) as usize;
         i += 1;
     }
     i
@@ -48,12 +47,8 @@ fn one_place(s: &[u8], start: usize, len: usize, z: usize) -> usize
         if left == 0 {
             return i;
         }
-        if strings::get_bit(s, start + i) {
-            i += 1;
-        } else {
-            left -= 1;
-            i += 1;
-        }
+        left -= !strings::get_bit(s, start + i) as usize;
+        i += 1;
     }
     i
 }
@@ -64,8 +59,9 @@ fn put_edit(s: &[u8], start: usize, len: usize, a: usize) -> Edit
     requires { ⌜ a ≤ len + 1 ⌝ }
     ensures { λ r. ⌜ r ≡ putEdit a (range (now (s .entry)) start len) ⌝ }
 {
-    let w = crate::sums::count_ones(s, start, len);
-    let d = lack_of(s, start, len, a);
+    let all = crate::sums::sums_of(s, start, len);
+    let w = all.ones;
+    let d = lack_of(len, all.sum, a);
     if d <= w {
         return Edit::Put(zero_place(s, start, len, w, d), false);
     }
@@ -83,23 +79,61 @@ pub fn find_put(s: &[u8], start: usize, len: usize, a: usize) -> Repair
     Repair::Found(put_edit(s, start, len, a))
 }
 
-// The first bit that can be taken out so that the syndrome is a; len where there is none.
+// The fall of the sum, 0 to len - 1, that leaves the syndrome a of a range with a bit less.
+fn zero_fall(len: usize, sum: usize, a: usize) -> usize
+    requires { ⌜ a < len ⌝ }
+    requires { ⌜ len ≤ 65536 ⌝ }
+    ensures { λ r. ⌜ r ≡ zeroFall len sum a ⌝ }
+{
+    (sum % len + (len - a)) % len
+}
+
+// The same as a fall from 1 to len.
+fn one_fall(len: usize, fall: usize) -> usize
+    ensures { λ r. ⌜ r ≡ oneFall len fall ⌝ }
+{
+    if fall == 0 {
+        return len;
+    }
+    fall
+}
+
+// What was found for a 0 or for a 1, by the bit b. Both are nearly always false, so that they are looked at before the bit, which is
+// hard to foretell.
+fn for_bit(b: bool, zero: bool, one: bool) -> bool
+    ensures { λ r. ⌜ r ≡ cond b one zero ⌝ }
+{
+    if zero {
+        if !b {
+            return true;
+        }
+    }
+    if one {
+        return b;
+    }
+    false
+}
+
+// The first bit that can be taken out so that the syndrome is a; len where there is none. A 0 lowers the sum by the ones behind it, 0 to
+// len - 1; a 1 by its place and the ones behind it, 1 to len.
 fn take_place(s: &[u8], start: usize, len: usize, a: usize) -> usize
     requires { ⌜ Part (now s) start len ⌝ }
     ensures { λ r. ⌜ r ≡ takePlace a (range (now (s .entry)) start len) ⌝ }
 {
-    let sum = crate::sums::weighted_sum(s, start, len);
-    let mut right = crate::sums::count_ones(s, start, len);
+    if len <= a {
+        return len;
+    }
+    let all = crate::sums::sums_of(s, start, len);
+    let for_zero = zero_fall(len, all.sum, a);
+    let for_one = one_fall(len, for_zero);
+    let mut right = all.ones;
     let mut i: usize = 0;
     while i < len {
-        let mut weight: usize = 0;
-        if strings::get_bit(s, start + i) {
-            right -= 1;
-            weight = i + 1;
-        }
-        if (sum - weight - right) % len == a {
+        let b = strings::get_bit(s, start + i);
+        if for_bit(b, right == for_zero, i + right == for_one) {
             return i;
         }
+        right -= b as usize;
         i += 1;
     }
     i

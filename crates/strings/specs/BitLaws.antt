@@ -1,17 +1,18 @@
 -- Laws of single bits: what turning a bit over and setting it do to each bit.
 use mathlib.Core.Path.{_≡_, refl, sym, ap, _∙_}
-use mathlib.Core.Bool.{Bool, true, false, not, cond}
+use mathlib.Core.Bool.{Bool, true, false, not, cond, Bool·beq}
 use mathlib.Core.Logic.{_≢_}
 use mathlib.Core.List.{List, [], _∷_, _++_}
 use Prim.Native.Nat.{ℕ, zero, suc, _+_, _-_, _*_, _/_, _%_, _^_, _≤_, _<_}
-use native.Mathlib.Nat.{zero-div, one-mul, mod-eq-of-lt, div-self, div-eq-of-lt, mul-mod-left, mod-lt, pow-suc, mul-add-mod-self-right}
+use native.Mathlib.Nat.{zero-div, zero-mul, one-mul, mod-eq-of-lt, div-self, div-eq-of-lt, mul-mod-left, mod-lt, pow-suc, mul-add-mod-self-right}
 use native.Mathlib.Decide.{ℕ-discrete, decLt}
 use native.Mathlib.Omega.{arith}
 use lib.ListN.{List·getD-eq-default, List·getD-append, length, getD, set, length-set}
-use lib.Seq.{getD-set-same, getD-set-other, set-append-left, set-out, getD-append-add}
+use lib.Seq.{getD-set-same, getD-set-other, set-getD, set-append-left, set-out, getD-append-add}
 use lib.Dec.{eqb}
-use lib.Bits.{bitXor, differ, xor-shr, xor-step}
+use lib.Bits.{bitXor, differ, xor-shr, xor-step, xor-zero-r}
 use lib.Pow.{pow-lt, pow-pos, pow-add, shl-shr}
+use mir.Val.{boolByte}
 use Rattle.strings.specs.Bits.{bitAt, flipped, setBit, differs}
 
 -- the machine's shift of 1 by a place of a byte
@@ -50,10 +51,10 @@ xor-odd a b =
     ∙ mul-add-mod-self-right (bitXor (a / 2) (b / 2)) 2 (differ (a % 2) (b % 2))
     ∙ mod-eq-of-lt (differ-lt (a % 2) (b % 2) (omega arith) (omega arith))
 
-xor-digit : (x y m : ℕ) → bitXor x y / 2 ^ m % 2 ≡ differ (x / 2 ^ m % 2) (y / 2 ^ m % 2)
+pub xor-digit : (x y m : ℕ) → bitXor x y / 2 ^ m % 2 ≡ differ (x / 2 ^ m % 2) (y / 2 ^ m % 2)
 xor-digit x y m = ap (λ (n : ℕ). n % 2) (xor-shr x y m) ∙ xor-odd (x / 2 ^ m) (y / 2 ^ m)
 
-differ-zero : (a : ℕ) → differ a 0 ≡ a
+pub differ-zero : (a : ℕ) → differ a 0 ≡ a
 differ-zero zero = refl
 differ-zero (suc a) = refl
 
@@ -108,22 +109,26 @@ length-setBit s i b = go (differs (bitAt s i) b)
     go true = length-set s (i / 8) (bitXor (getD s (i / 8) 0) (2 ^ (7 - i % 8)))
     go false = refl
 
--- what a program shows that sets a bit by turning it over where it differs
-pub set-flips : (s t : List ℕ) (i : ℕ) (b x y : Bool) → x ≡ bitAt s i → x ≡ y → b ≡ not y → t ≡ flipped s i → t ≡ setBit s i b
-unfolding setBit
-set-flips s t i b x y e f g h = rw (← e, f, g) (go y)
+-- what a program shows that sets a bit by an exclusive or of its byte: with the bit's power of two where it differs, with 0 where it does not
+pub set-turned : (s : List ℕ) (i : ℕ) (x b : Bool) → x ≡ bitAt s i
+    → set s (i / 8) (bitXor (getD s (i / 8) 0) ((boolByte (not (Bool·beq x b)) * 2 ^ (7 - i % 8)) % 256)) ≡ setBit s i b
+unfolding setBit flipped
+set-turned s i x b e = rw (← e) (go x b)
   where
-    go : (y : Bool) → t ≡ cond (differs y (not y)) (flipped s i) s
-    go true = h
-    go false = h
+    turns : set s (i / 8) (bitXor (getD s (i / 8) 0) ((1 * 2 ^ (7 - i % 8)) % 256)) ≡ set s (i / 8) (bitXor (getD s (i / 8) 0) (2 ^ (7 - i % 8)))
+    turns = ap (λ (n : ℕ). set s (i / 8) (bitXor (getD s (i / 8) 0) n)) (one-shl (7 - i % 8) (omega arith))
 
-pub set-keeps : (s : List ℕ) (i : ℕ) (b x y : Bool) → x ≡ bitAt s i → x ≡ y → b ≡ y → s ≡ setBit s i b
-unfolding setBit
-set-keeps s i b x y e f g = rw (← e, f, g) (go y)
-  where
-    go : (y : Bool) → s ≡ cond (differs y y) (flipped s i) s
-    go true = refl
-    go false = refl
+    keeps : set s (i / 8) (bitXor (getD s (i / 8) 0) ((0 * 2 ^ (7 - i % 8)) % 256)) ≡ s
+    keeps =
+        ap (λ (n : ℕ). set s (i / 8) (bitXor (getD s (i / 8) 0) (n % 256))) (zero-mul (2 ^ (7 - i % 8)))
+        ∙ ap (set s (i / 8)) (xor-zero-r (getD s (i / 8) 0)) ∙ set-getD s (i / 8) 0
+
+    go : (x b : Bool) → set s (i / 8) (bitXor (getD s (i / 8) 0) ((boolByte (not (Bool·beq x b)) * 2 ^ (7 - i % 8)) % 256))
+        ≡ cond (differs x b) (set s (i / 8) (bitXor (getD s (i / 8) 0) (2 ^ (7 - i % 8)))) s
+    go true true = keeps
+    go true false = turns
+    go false true = turns
+    go false false = keeps
 
 -- ---- past the end, and in front of and behind other bytes
 pub bit-past : (s : List ℕ) (i : ℕ) → 8 * length s ≤ i → bitAt s i ≡ false

@@ -1,7 +1,8 @@
 -- Bits packed in bytes, first bit in the most significant place; bits in the mathematics are lists of Bool.
+use mathlib.Core.Path.{_≡_}
 use mathlib.Core.Bool.{Bool, true, false, not, cond}
 use mathlib.Core.List.{List, [], _∷_}
-use Prim.Native.Nat.{ℕ, zero, suc, _+_, _-_, _*_, _/_, _%_, _^_, _≤_}
+use Prim.Native.Nat.{ℕ, zero, suc, _+_, _-_, _*_, _/_, _%_, _^_, _≤_, _<_}
 use lib.ListN.{length, getD, set, replicate}
 use lib.Seq.{sets}
 use lib.Dec.{eqb}
@@ -31,6 +32,16 @@ differs false b = b
 -- s with bit i set to b: turned over where it differs
 unfoldable pub setBit : List ℕ → ℕ → Bool → List ℕ
 setBit s i b = cond (differs (bitAt s i) b) (flipped s i) s
+
+-- the bits of a byte v; v is a byte, and they are the eight bits of s from bit p on
+abbrev pub byteBits : ℕ → List Bool
+byteBits v =
+    eqb (v / 2 ^ 7 % 2) 1 ∷ eqb (v / 2 ^ 6 % 2) 1 ∷ eqb (v / 2 ^ 5 % 2) 1 ∷ eqb (v / 2 ^ 4 % 2) 1 ∷ eqb (v / 2 ^ 3 % 2) 1 ∷ eqb (v / 2 ^ 2 % 2) 1 ∷ eqb (v / 2 ^ 1 % 2) 1
+    ∷ eqb (v / 2 ^ 0 % 2) 1 ∷ []
+
+pub record Eight (s : List ℕ) (p v : ℕ) : Type 0 where
+  pub byte : v < 256
+  pub bits : range s p 8 ≡ byteBits v
 
 -- s with the bits l written from bit a on
 unfoldable pub writeBits : List ℕ → ℕ → List Bool → List ℕ

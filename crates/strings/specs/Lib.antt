@@ -8,3 +8,4 @@ pub mod RangeLaws
 pub mod WriteLaws
 pub mod RuleLaws
 pub mod PackLaws
+pub mod ByteLaws

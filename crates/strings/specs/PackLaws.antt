@@ -60,7 +60,7 @@ pub pack-string : (l : List Bool) → length l ≤ 65536 → IsString (pack l) (
 pack-string l h = record { few = h; bytes = length-pack l; spare = pack-spare l }
 
 -- ---- bytes stay bytes
-set-bytes : (s : List ℕ) (j v : ℕ) → Bytes s → v < 256 → Bytes (set s j v)
+pub set-bytes : (s : List ℕ) (j v : ℕ) → Bytes s → v < 256 → Bytes (set s j v)
 set-bytes s j v h k i = go (ℕ-discrete i j) (decLt j (length s))
   where
     go : Dec (i ≡ j) → Dec (j < length s) → getD (set s j v) i 0 < 256

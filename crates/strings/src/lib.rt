@@ -3,7 +3,7 @@ ghost use mathlib.Core.Path.{_≡_};
 ghost use mathlib.Core.Bool.{Bool, true, false};
 ghost use Prim.Native.Nat.{ℕ, _+_, _*_, _≤_, _<_};
 ghost use lib.ListN.{length};
-ghost use Rattle.strings.specs.Bits.{bitAt, range, flipped, setBit, writeBits, sameBits, cleared, Part};
+ghost use Rattle.strings.specs.Bits.{bitAt, range, setBit, writeBits, sameBits, cleared, Part, Eight};
 ghost use Rattle.strings.specs.StringRule.{stringRule};
 ghost use Rattle.strings.specs.Refusals.{refusalNumber};
 
@@ -71,33 +71,19 @@ pub fn get_bit(s: &[u8], i: usize) -> bool
     (s[i / 8] >> (7 - i % 8)) % 2 == 1
 }
 
-// Bit i is turned over.
-fn flip_bit(s: &mut [u8], i: usize)
-    requires { ⌜ i < 8 * length (now s) ⌝ }
-    ensures { λ r. ⌜ now (s .exit) ≡ flipped (now (s .entry)) i ⌝ }
-{
-    let j = i / 8;
-    s[j] = s[j] ^ (1u8 << (7 - i % 8));
-}
-
-// Bit i is set to b.
+// Bit i is set to b: its byte is changed by an exclusive or, with nothing where the bit is b already. There is no branch, because the
+// bits of a string are hard to foretell.
 pub fn set_bit(s: &mut [u8], i: usize, b: bool)
     requires { ⌜ i < 8 * length (now s) ⌝ }
     ensures { λ r. ⌜ now (s .exit) ≡ setBit (now (s .entry)) i b ⌝ }
 {
-    if get_bit(s, i) {
-        if !b {
-            flip_bit(s, i);
-        }
-    } else {
-        if b {
-            flip_bit(s, i);
-        }
-    }
+    let turned = get_bit(s, i) != b;
+    let j = i / 8;
+    s[j] = s[j] ^ ((turned as u8) << (7 - i % 8));
 }
 
-// The len bits of `from` that start at `start` are written into `to` from place `at` on.
-pub fn copy_bits(from: &[u8], start: usize, len: usize, to: &mut [u8], at: usize)
+// The len bits of `from` that start at `start` are written into `to` from place `at` on, one by one.
+fn copy_singly(from: &[u8], start: usize, len: usize, to: &mut [u8], at: usize)
     requires { ⌜ Part (now from) start len ⌝ }
     requires { ⌜ Part (now to) at len ⌝ }
     ensures { λ r. ⌜ now (to .exit) ≡ writeBits (now (to .entry)) at (range (now (from .entry)) start len) ⌝ }
@@ -108,6 +94,51 @@ pub fn copy_bits(from: &[u8], start: usize, len: usize, to: &mut [u8], at: usize
         set_bit(to, at + i, b);
         i += 1;
     }
+}
+
+// The eight bits from bit p on, as a byte.
+pub fn eight_bits(s: &[u8], p: usize) -> u8
+    requires { ⌜ p + 8 ≤ 8 * length (now s) ⌝ }
+    ensures { λ r. ⌜ Eight (now (s .entry)) p r ⌝ }
+{
+    let j = p / 8;
+    let k = p % 8;
+    if k == 0 {
+        return s[j];
+    }
+    (s[j] << k) ^ (s[j + 1] >> (8 - k))
+}
+
+// The 8 * count bits of `from` that start at `start` become the count bytes of `to` from index `at` on.
+fn copy_bytes(from: &[u8], start: usize, count: usize, to: &mut [u8], at: usize)
+    requires { ⌜ Part (now from) start (8 * count) ⌝ }
+    requires { ⌜ at + count ≤ length (now to) ⌝ }
+    ensures { λ r. ⌜ now (to .exit) ≡ writeBits (now (to .entry)) (8 * at) (range (now (from .entry)) start (8 * count)) ⌝ }
+{
+    let mut i: usize = 0;
+    while i < count {
+        to[at + i] = eight_bits(from, start + 8 * i);
+        i += 1;
+    }
+}
+
+// The len bits of `from` that start at `start` are written into `to` from place `at` on: bits up to the first edge of a byte of `to`,
+// whole bytes as long as there are eight bits more, and the bits that are left.
+pub fn copy_bits(from: &[u8], start: usize, len: usize, to: &mut [u8], at: usize)
+    requires { ⌜ Part (now from) start len ⌝ }
+    requires { ⌜ Part (now to) at len ⌝ }
+    ensures { λ r. ⌜ now (to .exit) ≡ writeBits (now (to .entry)) at (range (now (from .entry)) start len) ⌝ }
+{
+    let head = (8 - at % 8) % 8;
+    if len < head {
+        copy_singly(from, start, len, to, at);
+        return;
+    }
+    let count = (len - head) / 8;
+    let done = head + 8 * count;
+    copy_singly(from, start, head, to, at);
+    copy_bytes(from, start + head, count, to, (at + head) / 8);
+    copy_singly(from, start + done, len - done, to, at + done);
 }
 
 // The count bytes from index `at` on become 0.

@@ -1,69 +1,78 @@
-use mathlib.Core.Path.{_≡_, refl, sym, ap, ap₂, _∙_}
-use Prim.Native.Nat.{_+_, _-_, _≤_}
+use Prim.Native.Nat.{_-_, _/_, _%_}
 use native.Mathlib.Omega.{arith}
-use lib.ListN.{length}
+use Rattle.strings.specs.ByteLaws.{copy-three}
 use borrow.Author.Needs.{needs}
-use Rattle.strings.specs.Bits.{range, writeBits}
-use Rattle.strings.specs.BitLaws.{length-setBit}
-use Rattle.strings.specs.RangeLaws.{rest, rest-first, rest-last}
-use Rattle.strings.specs.WriteLaws.{copy-next, write-none}
 use Rattle.strings.proofs.copy_bits.Statement.{statement}
 use Rattle.strings.proofs.copy_bits.Tie as tie
 
-abbrev Inv-loop : tie.InvT-loop
-Inv-loop from start len to₀ at i₀ to i = (i ≤ len) × (length to ≡ length to₀) × (writeBits to (at + i) (rest from start len i) ≡ writeBits to₀ at (range from start len))
+sub-head : tie.Need-sub-head
+sub-head c = search needs
 
-abbrev μ-loop : tie.MeasureT-loop
-μ-loop from start len to₀ at i₀ to i = len - i
+copy-singly-requires : tie.Need-copy-singly-requires
+copy-singly-requires c κs = search needs
 
-loop-holds : tie.Need-loop-holds Inv-loop μ-loop
-loop-holds c = let a = c .before .before .args in (omega arith, refl, ap₂ (writeBits (a .to .now)) (let e : a .at + 0 ≡ a .at = omega arith in e) (rest-first (a .from .now) (a .start) (a .len)))
-
-add-get-bit : tie.Need-add-get-bit Inv-loop μ-loop
-add-get-bit c = search needs
-
-get-bit-requires : tie.Need-get-bit-requires Inv-loop μ-loop
-get-bit-requires c κs = search needs
-
-add-set-bit : tie.Need-add-set-bit Inv-loop μ-loop
-add-set-bit c = search needs
-
-set-bit-requires : tie.Need-set-bit-requires Inv-loop μ-loop
-set-bit-requires c κs = search needs
-
-add-i : tie.Need-add-i Inv-loop μ-loop
-add-i c = search needs
-
-loop-less : tie.Need-loop-less Inv-loop μ-loop
-loop-less c = search needs
-
-loop-again : tie.Need-loop-again Inv-loop μ-loop
-loop-again c = let a = c .before .before .before .before .before .before .before .before .before .args in let l = c .before .before .before .before .before .before .loop in (
-  omega arith,
-  ap length (c .before .before .set-bit .ensures) ∙ length-setBit (l .to) (a .at + l .i) (c .before .before .before .before .get-bit .result) ∙ l .inv .1,
-  copy-next (a .from .now) (l .to) _ _ (a .start) (a .len) (a .at) (l .i) (c .before .before .before .before .get-bit .result) (c .before .before .before .before .before .loop-test .taken) (c .before .before .before .before .get-bit .ensures) (c .before .before .set-bit .ensures) (l .inv .2),
-)
-
-same-length : tie.Need-same-length Inv-loop μ-loop
+same-length : tie.Need-same-length
 same-length c = search needs
 
-returns : tie.Need-returns Inv-loop μ-loop
-returns c = let a = c .before .before .before .before .args in let l = c .before .loop in
-    sym (write-none (l .to) (a .at + l .i)) ∙ ap (writeBits (l .to) (a .at + l .i)) (sym (rest-last (a .from .now) (a .start) (a .len) (l .i) (c .loop-test .left))) ∙ l .inv .2
+returns : tie.Need-returns
+returns c = search needs
+
+mul-done : tie.Need-mul-done
+mul-done c = search needs
+
+add-done : tie.Need-add-done
+add-done c = search needs
+
+copy-singly-requires-2 : tie.Need-copy-singly-requires-2
+copy-singly-requires-2 c κs = search needs
+
+add-copy-bytes : tie.Need-add-copy-bytes
+add-copy-bytes c = search needs
+
+add-copy-bytes-2 : tie.Need-add-copy-bytes-2
+add-copy-bytes-2 c = search needs
+
+copy-bytes-requires : tie.Need-copy-bytes-requires
+copy-bytes-requires c κs = search needs
+
+add-copy-singly : tie.Need-add-copy-singly
+add-copy-singly c = search needs
+
+sub-copy-singly : tie.Need-sub-copy-singly
+sub-copy-singly c = search needs
+
+add-copy-singly-2 : tie.Need-add-copy-singly-2
+add-copy-singly-2 c = search needs
+
+copy-singly-requires-3 : tie.Need-copy-singly-requires-3
+copy-singly-requires-3 c κs = search needs
+
+same-length-2 : tie.Need-same-length-2
+same-length-2 c = search needs
+
+returns-2 : tie.Need-returns-2
+returns-2 c =
+    let args = c .before .before .before .before .before .before .before .before .before .before .before .before .before .before .before .args in
+    copy-three (args .from .now) (args .to .now) _ _ _ (args .start) (args .at) (args .len) ((8 - args .at % 8) % 8) ((args .len - (8 - args .at % 8) % 8) / 8) (omega arith) (omega arith)
+    (c .before .before .before .before .before .before .before .before .before .before .copy-singly2 .ensures) (c .before .before .before .before .before .before .copy-bytes .ensures) (c .before .before .copy-singly3 .ensures)
 
 pub copy-bits-spec : {M : Type 1} → statement M
 copy-bits-spec =
     tie.close
     (tie.spec
-    Inv-loop
-    μ-loop
-    loop-holds
-    add-get-bit
-    get-bit-requires
-    add-set-bit
-    set-bit-requires
-    add-i
-    loop-less
-    loop-again
+    sub-head
+    copy-singly-requires
     same-length
-    returns)
+    returns
+    mul-done
+    add-done
+    copy-singly-requires-2
+    add-copy-bytes
+    add-copy-bytes-2
+    copy-bytes-requires
+    add-copy-singly
+    sub-copy-singly
+    add-copy-singly-2
+    copy-singly-requires-3
+    same-length-2
+    returns-2)

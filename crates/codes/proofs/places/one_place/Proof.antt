@@ -1,12 +1,13 @@
 -- `codes::one_place` meets its contract: i and the place in the rest, for the zeros left to pass, are the place in the whole range. Assumes nothing.
-use mathlib.Core.Path.{_≡_, ap, _∙_}
-use mathlib.Core.Bool.{true, false}
+use mathlib.Core.Path.{_≡_, refl, ap, _∙_}
+use mathlib.Core.Bool.{not}
 use Prim.Native.Nat.{_+_, _-_, _≤_}
 use native.Mathlib.Omega.{arith}
 use Rattle.strings.specs.Bits.{range}
 use Rattle.strings.specs.RangeLaws.{rest, rest-first, rest-last, rest-is}
 use Rattle.codes.specs.Place.{onePlace}
-use Rattle.codes.specs.PlaceLaws.{one-place-stop, one-place-empty, one-place-one, one-place-zero}
+use Rattle.codes.specs.SyndromeLaws.{bit-most}
+use Rattle.codes.specs.PlaceLaws.{one-place-stop, one-place-empty, one-place-next}
 use borrow.Author.Needs.{needs}
 use Rattle.codes.proofs.places.one_place.Statement.{statement}
 use Rattle.codes.proofs.places.one_place.Tie as tie
@@ -18,21 +19,23 @@ abbrev μ-loop : tie.MeasureT-loop
 μ-loop s start len z left₀ i₀ left i = len - i
 
 loop-holds : tie.Need-loop-holds Inv-loop μ-loop
-loop-holds c =
-    let args = c .before .args in
-    let e = ap (onePlace (args .z)) (rest-first (args .s .now) (args .start) (args .len)) in omega arith
+loop-holds c = let e = ap (onePlace (c .before .args .z)) (rest-first (c .before .args .s .now) (c .before .args .start) (c .before .args .len)) in omega arith
 
 returns : tie.Need-returns Inv-loop μ-loop
-returns c =
-    let loop = c .before .before .loop in
-    let args = c .before .before .before .before .args in
-    let e = one-place-stop (loop .left) (rest (args .s .now) (args .start) (args .len) (loop .i)) (c .if1 .taken) in omega arith
+returns c = let e = one-place-stop (c .before .before .loop .left) (rest (c .before .before .before .before .args .s .now) (c .before .before .before .before .args .start) (c .before .before .before .before .args .len) (c .before .before .loop .i)) (c .if1 .taken) in omega arith
 
 add-get-bit : tie.Need-add-get-bit Inv-loop μ-loop
 add-get-bit c = search needs
 
 get-bit-requires : tie.Need-get-bit-requires Inv-loop μ-loop
 get-bit-requires c κs = search needs
+
+cast-left : tie.Need-cast-left Inv-loop μ-loop
+cast-left c = search needs
+
+sub-left : tie.Need-sub-left Inv-loop μ-loop
+sub-left c = let d = c .before .if1 .left in
+    let m = bit-most (not (c .get-bit .result)) in omega arith
 
 add-i : tie.Need-add-i Inv-loop μ-loop
 add-i c = search needs
@@ -41,33 +44,12 @@ loop-less : tie.Need-loop-less Inv-loop μ-loop
 loop-less c = search needs
 
 loop-again : tie.Need-loop-again Inv-loop μ-loop
-loop-again c =
-    let loop = c .before .before .before .before .loop in
-    let args = c .before .before .before .before .before .before .args in
-    let get-bit = c .before .get-bit in
-    let e = one-place-one (loop .left) _ _ (rest-is (args .s .now) (args .start) (args .len) (loop .i) (get-bit .result) true (c .before .before .before .loop-test .taken) (get-bit .ensures) (c .if2 .taken)) (c .before .before .if1 .left) in omega arith
-
-sub-left : tie.Need-sub-left Inv-loop μ-loop
-sub-left c = search needs
-
-add-i-2 : tie.Need-add-i-2 Inv-loop μ-loop
-add-i-2 c = search needs
-
-loop-less-2 : tie.Need-loop-less-2 Inv-loop μ-loop
-loop-less-2 c = search needs
-
-loop-again-2 : tie.Need-loop-again-2 Inv-loop μ-loop
-loop-again-2 c =
-    let loop = c .before .before .before .before .loop in
-    let args = c .before .before .before .before .before .before .args in
-    let get-bit = c .before .get-bit in
-    let e = one-place-zero (loop .left) _ _ (rest-is (args .s .now) (args .start) (args .len) (loop .i) (get-bit .result) false (c .before .before .before .loop-test .taken) (get-bit .ensures) (c .if2 .left)) (c .before .before .if1 .left) in omega arith
+loop-again c = let b = c .get-bit .result in
+    let p = one-place-next (c .before .before .before .loop .left) _ _ b (rest-is (c .before .before .before .before .before .args .s .now) (c .before .before .before .before .before .args .start) (c .before .before .before .before .before .args .len) (c .before .before .before .loop .i) b b (c .before .before .loop-test .taken) (c .get-bit .ensures) refl) (c .before .if1 .left) in
+    omega arith
 
 returns-2 : tie.Need-returns-2 Inv-loop μ-loop
-returns-2 c =
-    let loop = c .before .loop in
-    let args = c .before .before .before .args in
-    let e = ap (onePlace (loop .left)) (rest-last (args .s .now) (args .start) (args .len) (loop .i) (c .loop-test .left)) ∙ one-place-empty (loop .left) in omega arith
+returns-2 c = let e = ap (onePlace (c .before .loop .left)) (rest-last (c .before .before .before .args .s .now) (c .before .before .before .args .start) (c .before .before .before .args .len) (c .before .loop .i) (c .loop-test .left)) ∙ one-place-empty (c .before .loop .left) in omega arith
 
 pub one-place-spec : {M : Type 1} → statement M
 one-place-spec =
@@ -79,11 +61,9 @@ one-place-spec =
     returns
     add-get-bit
     get-bit-requires
+    cast-left
+    sub-left
     add-i
     loop-less
     loop-again
-    sub-left
-    add-i-2
-    loop-less-2
-    loop-again-2
     returns-2)

@@ -1,0 +1,20 @@
+-- `codes::hash_bit` meets its contract. Assumes nothing.
+use mathlib.Core.Path.{_≡_, sym, ap, _∙_}
+use mathlib.Core.Bool.{Bool, cond}
+use lib.Bits.{bitXor, xor-zero-r}
+use Rattle.codes.specs.HashLaws.{went-bit}
+use borrow.Author.Needs.{needs}
+use Rattle.codes.proofs.rows.hash_bit.Statement.{statement}
+use Rattle.codes.proofs.rows.hash_bit.Tie as tie
+
+step-requires : tie.Need-step-requires
+step-requires c κs = search needs
+
+returns : tie.Need-returns
+returns c = went-bit (c .before .before .args .sum) (c .before .before .args .row) _ (c .before .step .result) (c .before .before .args .b) (ap (λ (t : Bool). bitXor (c .before .before .args .sum) (cond t (c .before .step .result) 0)) (sym (c .if1 .taken))) (c .before .step .ensures)
+
+returns-2 : tie.Need-returns-2
+returns-2 c = went-bit (c .before .before .args .sum) (c .before .before .args .row) _ (c .before .step .result) (c .before .before .args .b) (sym (xor-zero-r (c .before .before .args .sum)) ∙ ap (λ (t : Bool). bitXor (c .before .before .args .sum) (cond t (c .before .step .result) 0)) (sym (c .if1 .left))) (c .before .step .ensures)
+
+pub hash-bit-spec : {M : Type 1} → statement M
+hash-bit-spec = tie.close (tie.spec step-requires returns returns-2)
