@@ -1,3 +1,5 @@
 -- What the proofs share.
 pub mod Arrays
+pub mod Again
+pub mod LentRows
 pub mod Walk
