@@ -2,4 +2,3 @@
 pub mod Arrays
 pub mod Again
 pub mod LentRows
-pub mod Walk

@@ -1,5 +1,5 @@
 -- Laws of the sheet of rows: that a call's change lies in it, what rows written one after the other make, and the call.
-use mathlib.Core.Path.{_≡_, refl, sym, ap, _∙_}
+use mathlib.Core.Path.{_≡_, refl, ap, _∙_}
 use mathlib.Core.List.{List, [], _∷_}
 use Prim.Native.Nat.{ℕ, suc, _+_, _-_, _≤_, _<_}
 use native.Mathlib.Numerals.{add-one}
@@ -16,7 +16,7 @@ use Rattle.protocol.specs.SheetRoom.{rowsNeeded, taken-rows}
 use Rattle.protocol.specs.Worlds.{afterTaken, world}
 use Rattle.ends.specs.declared.rebuilder.RebuilderOut.{RebuilderOut}
 use Rattle.ends.specs.RebuilderCode.{RebuilderSaid, saidRebuilder, leavesRebuilder}
-use Rattle.ends.specs.SheetCall.{SheetSaid, saidOnSheet, sheetLeft, leavesOnSheet}
+use Rattle.ends.specs.SheetCall.{saidOnSheet, sheetLeft, leavesOnSheet}
 
 -- ---- the call
 module _ (st : Rebuilder) (string question string′ question′ : List ℕ) (out : RebuilderOut) where

@@ -3,7 +3,7 @@
 --     more, ends   a turn that clears one row, and the turn that leaves the loop, with the rest of the body
 -- All that the proof knows of the two callees is that they meet their contracts.
 -- Assumes nothing.
-use mathlib.Core.Path.{_≡_, refl, sym, ap, subst}
+use mathlib.Core.Path.{_≡_, refl, sym, subst}
 use mathlib.Core.Bool.{Bool}
 use mathlib.Core.WellFounded.{WellFounded, InvImage·wf}
 use Prim.Native.Nat.{ℕ, _+_, _-_, _≤_, _<_, _^_}
@@ -76,18 +76,15 @@ stayed = (stay-slice (0 ∷ []) tt (plain (λ _. T.the-row)), (stay-none (λ _. 
 abbrev NoRow : {M : Type 1} (𝓤 : URA M) (H : Heap 𝓤) (A : Atoms 𝓤) (mem : Memory → SProp 𝓤) (run : Routine → Fun 𝓤) → Contract 𝓤
 NoRow 𝓤 H A mem run = tripleOf 𝓤 H A no-row.signature (no-row.spec 𝓤 H A mem run)
 
--- the types of the locals: a number, the reference to a row that a slice's pointer has, and a slice
+-- the types of the locals: a number, and the reference that the sheet's pointer is, as a parameter and lent again
 abbrev word : Ty
 word = tyInt w64
-
-abbrev rows-of : Ty → Ty
-rows-of r = sliceTy r
 
 abbrev param : Ty
 param = tyRef (named 0) mut (pointee (T.the-row .written))
 
-abbrev again-ref : Ty
-again-ref = tyRef erased mut (pointee (T.the-row .written))
+abbrev row-ref : Ty
+row-ref = tyRef erased mut (pointee (T.the-row .written))
 
 record Turn (ys : List Row) (from to : ℕ) : Type 0 where
   i : ℕ
@@ -151,14 +148,14 @@ module _ {M : Type 1} (𝓤 : URA M) (H : Heap 𝓤) (A : Atoms 𝓤) (W : Given
 
     -- the locals: (), sheet, from, to, i, zeros, the test, the call's (), and the sheet lent again: its pointer, and pointer and count
     abbrev En : Env 𝓤 H
-    En = (tyUnit, l₀) ∷ (rows-of param, l₁) ∷ (word, l₂) ∷ (word, l₃) ∷ (word, l₄) ∷ (T′.mir, l₅) ∷ (tyBool, l₆) ∷ (tyUnit, l₇) ∷ (again-ref, l₈) ∷ (rows-of again-ref, l₉) ∷ []
+    En = (tyUnit, l₀) ∷ (sliceTy param, l₁) ∷ (word, l₂) ∷ (word, l₃) ∷ (word, l₄) ∷ (T′.mir, l₅) ∷ (tyBool, l₆) ∷ (tyUnit, l₇) ∷ (row-ref, l₈) ∷ (sliceTy row-ref, l₉) ∷ []
 
     -- the invariant: the sheet at the rows so far, the token, and the locals, the last first
     abbrev At : At-turn → List (Item 𝓤)
     At t = ‵ (Sheet b o κ γ (length ys) (t .rows)) ∷ ‵ (flft κ q)
-        ∷ ‵ (froom (rows-of again-ref) l₉ 0) ∷ ‵ (fdies (rows-of again-ref) l₉) ∷ ‵ (froom again-ref l₈ 0) ∷ ‵ (fdies again-ref l₈) ∷ ‵ (froom tyUnit l₇ 0) ∷ ‵ (fdies tyUnit l₇) ∷ ‵ (froom tyBool l₆ 0) ∷ ‵ (fdies tyBool l₆)
+        ∷ ‵ (froom (sliceTy row-ref) l₉ 0) ∷ ‵ (fdies (sliceTy row-ref) l₉) ∷ ‵ (froom row-ref l₈ 0) ∷ ‵ (fdies row-ref l₈) ∷ ‵ (froom tyUnit l₇ 0) ∷ ‵ (fdies tyUnit l₇) ∷ ‵ (froom tyBool l₆ 0) ∷ ‵ (fdies tyBool l₆)
         ∷ ‵ (froom T′.mir l₅ 0) ∷ ‵ (fdies T′.mir l₅) ∷ ‵ (fat fullShare word l₄ 0 (vint w64 (t .i))) ∷ ‵ (fdies word l₄) ∷ ‵ (fat fullShare word l₃ 0 (vint w64 to)) ∷ ‵ (fdies word l₃)
-        ∷ ‵ (fat fullShare word l₂ 0 (vint w64 from-at)) ∷ ‵ (fdies word l₂) ∷ ‵ (fat fullShare (rows-of param) l₁ 0 s) ∷ ‵ (fdies (rows-of param) l₁) ∷ ‵ (froom tyUnit l₀ 0) ∷ ‵ (fdies tyUnit l₀) ∷ []
+        ∷ ‵ (fat fullShare word l₂ 0 (vint w64 from-at)) ∷ ‵ (fdies word l₂) ∷ ‵ (fat fullShare (sliceTy param) l₁ 0 s) ∷ ‵ (fdies (sliceTy param) l₁) ∷ ‵ (froom tyUnit l₀ 0) ∷ ‵ (fdies tyUnit l₀) ∷ []
 
     -- a turn's postcondition: it ends nearer to the end, or the loop is left and the rest of the body runs
     abbrev Turned : At-turn → Out → SProp 𝓤
