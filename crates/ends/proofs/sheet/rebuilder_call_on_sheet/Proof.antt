@@ -125,7 +125,7 @@ change-is r is = SL.owed O.the-type O′.the-laws r _ is .1 .1 .0
 module _ {M : Type 1} (𝓤 : URA M) (H : Heap 𝓤) (A : Atoms 𝓤) (W : Given 𝓤 H A) (mem : Memory → SProp 𝓤) (run : Routine → Fun 𝓤)
     (κ₀ κ₁ κ₂ κ₃ κ₄ : Lft) (q₀ q₁ q₂ q₃ q₄ : Share) (y-at msg-at sheet-at string-at question-at : ℕ × ℕ) (y-name msg-name sheet-name string-name question-name : GName)
     (st : Rebuilder) (y : List ℕ) (bits : ℕ) (msg : List ℕ) (rows : List Row) (string question : List ℕ)
-    (st-is : Is R.the-row st (SL.val R.the-type R′.the-laws st ∷ [])) (y-room : Room u8 (length y)) (bits-fits : bits < 2 ^ 64) (msg-room : Room u8 (length msg)) (room : Room T.the-row (length rows)) (string-room : Room u8 (length string)) (question-room : Room u8 (length question)) where
+    (st-val : Val) (st-is : Is R.the-row st (st-val ∷ [])) (y-room : Room u8 (length y)) (bits-fits : bits < 2 ^ 64) (msg-room : Room u8 (length msg)) (room : Room T.the-row (length rows)) (string-room : Room u8 (length string)) (question-room : Room u8 (length question)) where
   abbrev ref : {X : Type 0} → ℕ × ℕ → GName → X → RefT X
   ref at δ x = record { ptr = at; name = δ; now = x }
 
@@ -136,7 +136,7 @@ module _ {M : Type 1} (𝓤 : URA M) (H : Heap 𝓤) (A : Atoms 𝓤) (W : Given
   a = (st, (ref y-at y-name y, (bits, (ref msg-at msg-name msg, (ref sheet-at sheet-name rows, (ref string-at string-name string, (ref question-at question-name question, tt)))))))
 
   abbrev vals : Vals on-sheet.signature (κ₀, (κ₁, (κ₂, (κ₃, (κ₄, tt)))))
-  vals = (SL.val R.the-type R′.the-laws st ∷ [], (sliceVal y-at (length y) ∷ [], (vint w64 bits ∷ [], (sliceVal msg-at (length msg) ∷ [], (s ∷ [], (sliceVal string-at (length string) ∷ [], (sliceVal question-at (length question) ∷ [], tt)))))))
+  vals = (st-val ∷ [], (sliceVal y-at (length y) ∷ [], (vint w64 bits ∷ [], (sliceVal msg-at (length msg) ∷ [], (s ∷ [], (sliceVal string-at (length string) ∷ [], (sliceVal question-at (length question) ∷ [], tt)))))))
 
   abbrev bound : walkOf 𝓤 H A on-sheet.ended stayed (on-sheet.clauses 𝓤 H A mem run) .Ghost
   bound = (((κ₀, (κ₁, (κ₂, (κ₃, (κ₄, tt))))), (q₀, (q₁, (q₂, (q₃, (q₄, tt))))), tt, a, vals), tt)
@@ -163,7 +163,7 @@ module _ {M : Type 1} (𝓤 : URA M) (H : Heap 𝓤) (A : Atoms 𝓤) (W : Given
   core-args = (st, (ref y-at y-name y, (bits, (ref msg-at msg-name msg, (length rows, (ref string-at string-name string, (ref question-at question-name question, tt)))))))
 
   abbrev core-vals : Vals core.signature (κ₀, (κ₁, (κ₃, (κ₄, tt))))
-  core-vals = (SL.val R.the-type R′.the-laws st ∷ [], (sliceVal y-at (length y) ∷ [], (vint w64 bits ∷ [], (sliceVal msg-at (length msg) ∷ [], (vint w64 (length rows) ∷ [], (sliceVal string-at (length string) ∷ [], (sliceVal question-at (length question) ∷ [], tt)))))))
+  core-vals = (st-val ∷ [], (sliceVal y-at (length y) ∷ [], (vint w64 bits ∷ [], (sliceVal msg-at (length msg) ∷ [], (vint w64 (length rows) ∷ [], (sliceVal string-at (length string) ∷ [], (sliceVal question-at (length question) ∷ [], tt)))))))
 
   abbrev to-core : Core 𝓤 H A mem run .Ghost
   to-core = (((κ₀, (κ₁, (κ₃, (κ₄, tt)))), (q₀, (q₁, (q₃, (q₄, tt)))), tt, core-args, core-vals), tt)
@@ -241,7 +241,7 @@ module _ {M : Type 1} (𝓤 : URA M) (H : Heap 𝓤) (A : Atoms 𝓤) (W : Given
         ∷ ‵ (froom byte-ref l₁₃ 0) ∷ ‵ (fdies byte-ref l₁₃) ∷ ‵ (froom (sliceTy byte-ref) l₁₂ 0) ∷ ‵ (fdies (sliceTy byte-ref) l₁₂) ∷ ‵ (froom byte-ref l₁₁ 0) ∷ ‵ (fdies byte-ref l₁₁) ∷ ‵ (froom word l₁₀ 0) ∷ ‵ (fdies word l₁₀)
         ∷ ‵ (froom E′.mir l₉ 0) ∷ ‵ (fdies E′.mir l₉) ∷ ‵ (fat fullShare O′.mir l₈ 0 (out-val r)) ∷ ‵ (fdies O′.mir l₈) ∷ ‵ (fat fullShare (sliceTy (bytes 4)) l₇ 0 (sliceVal question-at (length question))) ∷ ‵ (fdies (sliceTy (bytes 4)) l₇) ∷ ‵ (fat fullShare (sliceTy (bytes 3)) l₆ 0 (sliceVal string-at (length string))) ∷ ‵ (fdies (sliceTy (bytes 3)) l₆)
         ∷ ‵ (fat fullShare (sliceTy param) l₅ 0 s) ∷ ‵ (fdies (sliceTy param) l₅) ∷ ‵ (fat fullShare (sliceTy (shared 1)) l₄ 0 (sliceVal msg-at (length msg))) ∷ ‵ (fdies (sliceTy (shared 1)) l₄) ∷ ‵ (fat fullShare word l₃ 0 (vint w64 bits)) ∷ ‵ (fdies word l₃) ∷ ‵ (fat fullShare (sliceTy (shared 0)) l₂ 0 (sliceVal y-at (length y))) ∷ ‵ (fdies (sliceTy (shared 0)) l₂)
-        ∷ ‵ (fat fullShare R′.mir l₁ 0 (SL.val R.the-type R′.the-laws st)) ∷ ‵ (fdies R′.mir l₁) ∷ ‵ (froom O′.mir l₀ 0) ∷ ‵ (fdies O′.mir l₀) ∷ []
+        ∷ ‵ (fat fullShare R′.mir l₁ 0 st-val) ∷ ‵ (fdies R′.mir l₁) ∷ ‵ (froom O′.mir l₀ 0) ∷ ‵ (fdies O′.mir l₀) ∷ []
 
     -- the change is done to the sheet, and the result is returned
     applies : (r : RebuilderOut) (string′ question′ : List ℕ) → Said r string′ question′ → Is O.the-row r (out-val r ∷ []) → length string′ ≡ length string → length question′ ≡ length question
@@ -268,7 +268,7 @@ module _ {M : Type 1} (𝓤 : URA M) (H : Heap 𝓤) (A : Atoms 𝓤) (W : Given
         ∷ ‵ (froom byte-ref l₁₃ 0) ∷ ‵ (fdies byte-ref l₁₃) ∷ ‵ (froom (sliceTy byte-ref) l₁₂ 0) ∷ ‵ (fdies (sliceTy byte-ref) l₁₂) ∷ ‵ (froom byte-ref l₁₁ 0) ∷ ‵ (fdies byte-ref l₁₁) ∷ ‵ (froom word l₁₀ 0) ∷ ‵ (fdies word l₁₀)
         ∷ ‵ (froom E′.mir l₉ 0) ∷ ‵ (fdies E′.mir l₉) ∷ ‵ (froom O′.mir l₈ 0) ∷ ‵ (fdies O′.mir l₈) ∷ ‵ (fat fullShare (sliceTy (bytes 4)) l₇ 0 (sliceVal question-at (length question))) ∷ ‵ (fdies (sliceTy (bytes 4)) l₇) ∷ ‵ (fat fullShare (sliceTy (bytes 3)) l₆ 0 (sliceVal string-at (length string))) ∷ ‵ (fdies (sliceTy (bytes 3)) l₆)
         ∷ ‵ (fat fullShare (sliceTy param) l₅ 0 s) ∷ ‵ (fdies (sliceTy param) l₅) ∷ ‵ (fat fullShare (sliceTy (shared 1)) l₄ 0 (sliceVal msg-at (length msg))) ∷ ‵ (fdies (sliceTy (shared 1)) l₄) ∷ ‵ (fat fullShare word l₃ 0 (vint w64 bits)) ∷ ‵ (fdies word l₃) ∷ ‵ (fat fullShare (sliceTy (shared 0)) l₂ 0 (sliceVal y-at (length y))) ∷ ‵ (fdies (sliceTy (shared 0)) l₂)
-        ∷ ‵ (fat fullShare R′.mir l₁ 0 (SL.val R.the-type R′.the-laws st)) ∷ ‵ (fdies R′.mir l₁) ∷ ‵ (froom O′.mir l₀ 0) ∷ ‵ (fdies O′.mir l₀) ∷ []
+        ∷ ‵ (fat fullShare R′.mir l₁ 0 st-val) ∷ ‵ (fdies R′.mir l₁) ∷ ‵ (froom O′.mir l₀ 0) ∷ ‵ (fdies O′.mir l₀) ∷ []
 
     runs-through : Sq W Start (runs C Λ En mir.t-1 (atRet En Post))
     runs-through =
@@ -293,7 +293,7 @@ module _ {M : Type 1} (𝓤 : URA M) (H : Heap 𝓤) (A : Atoms 𝓤) (W : Given
 
   module _ (C : Calls 𝓤 H) (Λ : Loops 𝓤 H) (fm : FmC 𝓤 H (W .laws) C) (known-core : Triple 𝓤 (C #ends·rebuilder-call) (Core 𝓤 H A mem run)) (known-apply : Triple 𝓤 (C #ends·apply-change) (ApplyChange 𝓤 H A mem run)) where
     abbrev flat : List Val
-    flat = SL.val R.the-type R′.the-laws st ∷ sliceVal y-at (length y) ∷ vint w64 bits ∷ sliceVal msg-at (length msg) ∷ s ∷ sliceVal string-at (length string) ∷ sliceVal question-at (length question) ∷ []
+    flat = st-val ∷ sliceVal y-at (length y) ∷ vint w64 bits ∷ sliceVal msg-at (length msg) ∷ s ∷ sliceVal string-at (length string) ∷ sliceVal question-at (length question) ∷ []
 
     walk : ent 𝓤 (onEntry 𝓤 H A on-sheet.signature (κ₀, (κ₁, (κ₂, (κ₃, (κ₄, tt))))) (q₀, (q₁, (q₂, (q₃, (q₄, tt))))) a vals) (WpFn 𝓤 H C Λ code.function flat Post)
     walk =
@@ -327,7 +327,7 @@ module _ {M : Type 1} (𝓤 : URA M) (H : Heap 𝓤) (A : Atoms 𝓤) (W : Given
       (walk 𝓤 H A W mem run (κs .0) (κs .1 .0) (κs .1 .1 .0) (κs .1 .1 .1 .0) (κs .1 .1 .1 .1 .0) (qs .0) (qs .1 .0) (qs .1 .1 .0) (qs .1 .1 .1 .0) (qs .1 .1 .1 .1 .0)
       (a .1 .0 .ptr) (a .1 .1 .1 .0 .ptr) (a .1 .1 .1 .1 .0 .ptr) (a .1 .1 .1 .1 .1 .0 .ptr) (a .1 .1 .1 .1 .1 .1 .0 .ptr) (a .1 .0 .name) (a .1 .1 .1 .0 .name) (a .1 .1 .1 .1 .0 .name) (a .1 .1 .1 .1 .1 .0 .name) (a .1 .1 .1 .1 .1 .1 .0 .name)
       (a .0) (a .1 .0 .now) (a .1 .1 .0) (a .1 .1 .1 .0 .now) (a .1 .1 .1 .1 .0 .now) (a .1 .1 .1 .1 .1 .0 .now) (a .1 .1 .1 .1 .1 .1 .0 .now)
-      (are .0) (are .1 .0 .0 .1) (are .1 .1 .0 .1) (are .1 .1 .1 .0 .0 .1) (are .1 .1 .1 .1 .0 .0 .1) (are .1 .1 .1 .1 .1 .0 .0 .1) (are .1 .1 .1 .1 .1 .1 .0 .0 .1)
+      _ (are .0) (are .1 .0 .0 .1) (are .1 .1 .0 .1) (are .1 .1 .1 .0 .0 .1) (are .1 .1 .1 .1 .0 .0 .1) (are .1 .1 .1 .1 .1 .0 .0 .1) (are .1 .1 .1 .1 .1 .1 .0 .0 .1)
       (𝓣 .C) (𝓣 .Λ) (fmOf 𝓤 H (W .laws) 𝓣) known-core known-apply))
 
   on-sheet-meets : Meets 𝓤 H A on-sheet.signature (WpFn 𝓤 H (𝓣 .C) (𝓣 .Λ) code.function) (on-sheet.spec 𝓤 H A mem run)
