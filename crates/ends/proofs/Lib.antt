@@ -1,3 +1,4 @@
 -- What the proofs share.
 pub mod Arrays
-pub mod Walk
+pub mod Again
+pub mod LentRows

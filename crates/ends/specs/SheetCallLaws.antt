@@ -1,5 +1,5 @@
 -- Laws of the sheet of rows: that a call's change lies in it, what rows written one after the other make, and the call.
-use mathlib.Core.Path.{_≡_, refl, sym, ap, _∙_}
+use mathlib.Core.Path.{_≡_, refl, ap, _∙_}
 use mathlib.Core.List.{List, [], _∷_}
 use Prim.Native.Nat.{ℕ, suc, _+_, _-_, _≤_, _<_}
 use native.Mathlib.Numerals.{add-one}
@@ -16,7 +16,7 @@ use Rattle.protocol.specs.SheetRoom.{rowsNeeded, taken-rows}
 use Rattle.protocol.specs.Worlds.{afterTaken, world}
 use Rattle.ends.specs.declared.rebuilder.RebuilderOut.{RebuilderOut}
 use Rattle.ends.specs.RebuilderCode.{RebuilderSaid, saidRebuilder, leavesRebuilder}
-use Rattle.ends.specs.SheetCall.{SheetSaid, saidOnSheet, sheetLeft, leavesOnSheet}
+use Rattle.ends.specs.SheetCall.{saidOnSheet, sheetLeft, leavesOnSheet}
 
 -- ---- the call
 module _ (st : Rebuilder) (string question string′ question′ : List ℕ) (out : RebuilderOut) where
@@ -62,20 +62,8 @@ clear-end from to s₀ s i h k =
     let n : 0 ≡ to - i = omega arith in
     ap (λ (m : ℕ). sets s i (replicate m noRow)) n ∙ k .1
 
--- ---- a change
-pub need-add : (n : ℕ) (k : SheetChange) (i : ℕ) (r : Row) → k ≡ AddRow i r → rowsNeeded k ≤ n → i < n
-need-add n k i r e h = let g = rw e at h in omega arith
-
-pub need-one : (n : ℕ) (k : SheetChange) (used : ℕ) (r : Row) → k ≡ OneRow used r → rowsNeeded k ≤ n → (0 < n) × (used ≤ n)
-need-one n k used r e h = let g = rw e at h in (omega arith, omega arith)
-
-pub change-none : (s : List Row) (k : SheetChange) → k ≡ NoRow → s ≡ sheetAfter s k
-change-none s k e = rw e refl
-
-pub change-add : (s t : List Row) (k : SheetChange) (i : ℕ) (r : Row) → k ≡ AddRow i r → t ≡ sets s i (r ∷ []) → t ≡ sheetAfter s k
-change-add s t k i r e f = f ∙ sym (ap (λ (x : SheetChange). sheetAfter s x) e)
-
--- one row in place of the used ones
-pub change-one : (s t u : List Row) (k : SheetChange) (used : ℕ) (r : Row) → k ≡ OneRow used r → t ≡ sets s 0 (r ∷ []) → u ≡ sets t 1 (replicate (used - 1) noRow) → u ≡ sheetAfter s k
-change-one s t u k used r e f g =
-    g ∙ ap (λ (l : List Row). sets l 1 (replicate (used - 1) noRow)) f ∙ sym (ap (λ (x : SheetChange). sheetAfter s x) e)
+-- ---- a change keeps the number of rows
+pub length-after : (s : List Row) (k : SheetChange) → length (sheetAfter s k) ≡ length s
+length-after s NoRow = refl
+length-after s (AddRow i r) = length-sets s i (r ∷ [])
+length-after s (OneRow used r) = length-sets s 0 (r ∷ replicate (used - 1) noRow)
