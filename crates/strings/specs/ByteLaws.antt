@@ -4,7 +4,7 @@ use mathlib.Core.Bool.{Bool, false}
 use mathlib.Core.Logic.{inl, inr}
 use mathlib.Core.List.{List, [], _++_}
 use Prim.Native.Nat.{ℕ, zero, suc, _+_, _-_, _*_, _/_, _%_, _^_, _≤_, _<_}
-use native.Mathlib.Nat.{add-zero, div-eq-of-lt, lt-of-lt-of-le, mul-assoc}
+use native.Mathlib.Nat.{div-eq-of-lt, lt-of-lt-of-le, mul-assoc}
 use native.Mathlib.Decide.{decLt, decLe}
 use native.Mathlib.Omega.{arith}
 use lib.ListN.{length, getD, set, length-set}

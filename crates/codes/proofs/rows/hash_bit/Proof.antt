@@ -1,5 +1,5 @@
 -- `codes::hash_bit` meets its contract. Assumes nothing.
-use mathlib.Core.Path.{_≡_, sym, ap, _∙_}
+use mathlib.Core.Path.{sym, ap, _∙_}
 use mathlib.Core.Bool.{Bool, cond}
 use lib.Bits.{bitXor, xor-zero-r}
 use Rattle.codes.specs.HashLaws.{went-bit}

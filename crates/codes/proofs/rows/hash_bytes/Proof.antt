@@ -1,5 +1,4 @@
 -- `codes::hash_bytes` meets its contract: from the hash under way, the bits left lead to where all the bits lead. Assumes nothing.
-use mathlib.Core.Path.{_≡_}
 use Prim.Native.Nat.{_+_, _-_, _*_, _≤_}
 use native.Mathlib.Omega.{arith}
 use lib.ListN.{length}

@@ -1,5 +1,5 @@
 -- `codes::sum_bytes` meets its contract: the bytes read are in front of the bits that were there. Assumes nothing.
-use mathlib.Core.Path.{_≡_, ap₂, ap, _∙_}
+use mathlib.Core.Path.{_≡_, ap, _∙_}
 use Prim.Native.Nat.{ℕ, _+_, _-_, _*_, _≤_}
 use native.Mathlib.Nat.{le-refl}
 use native.Mathlib.Omega.{arith}

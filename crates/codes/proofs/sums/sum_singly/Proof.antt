@@ -1,9 +1,8 @@
 -- `codes::sum_singly` meets its contract: what was read are the bits from i on. Assumes nothing.
 use mathlib.Core.Path.{_≡_, ap, _∙_}
-use Prim.Native.Nat.{ℕ, _+_, _-_, _*_, _≤_}
+use Prim.Native.Nat.{_+_, _-_, _*_, _≤_}
 use native.Mathlib.Nat.{le-refl}
 use native.Mathlib.Omega.{arith}
-use Rattle.strings.specs.Bits.{range}
 use Rattle.strings.specs.RangeLaws.{rest, rest-first, rest-last}
 use Rattle.codes.specs.Place.{Grows}
 use Rattle.codes.specs.SyndromeLaws.{grows-none, grows-as, grows-single}
