@@ -1,4 +1,5 @@
-// The anchor search: where the bits of an anchor stand in the copy's piece.
+// The anchor search: where the bits of an anchor stand in the copy's piece. `find_anchor` is for a host, on any input; `place_anchor` is
+// for the rebuilder, whose sound state keeps what it requires.
 ghost use mathlib.Core.Path.{_≡_};
 ghost use Prim.Native.Nat.{_+_, _-_, _≤_, min};
 ghost use lib.Dec.{leb};

@@ -1,4 +1,4 @@
-// The bytes of a holder's and of a rebuilder's state (docs/LAYOUT.md).
+// The bytes of a holder's and of a rebuilder's state (docs/LAYOUT.md). An entry point tests the slice's length before it comes here.
 ghost use mathlib.Core.Path.{_≡_};
 ghost use mathlib.Core.List.{List, [], _∷_, _++_};
 ghost use Prim.Native.Nat.{_+_, _≤_};

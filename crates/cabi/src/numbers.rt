@@ -1,4 +1,4 @@
-// 32-bit numbers as bytes, little-endian.
+// 32-bit numbers as bytes, little-endian, at places that their callers know to lie in the slice.
 ghost use mathlib.Core.Path.{_≡_};
 ghost use mathlib.Core.List.{List, [], _∷_};
 ghost use Prim.Native.Nat.{_+_, _≤_};

@@ -1,4 +1,4 @@
--- Laws of edits: the bits of an edited range, its length, and that the edits found are put-in and take-out.
+-- Laws of edits: the length of an edited range, its parts, and that the edits found are put-in and take-out.
 use mathlib.Core.Path.{_≡_, refl, sym, ap, ap₂, _∙_, subst}
 use mathlib.Core.Bool.{Bool, true, false, cond}
 use mathlib.Core.Logic.{_⊎_, inl, inr}
@@ -28,34 +28,6 @@ use Rattle.codes.specs.declared.edits.Edit.{Edit}
 use Rattle.codes.specs.declared.edits.Edit.the-variants.{Keep, Put, Take}
 use Rattle.codes.specs.declared.edits.Repair.{Repair}
 use Rattle.codes.specs.declared.edits.Repair.the-variants.{Found, Nothing}
-
--- ---- bits of a list with a bit put in, or taken out
-back-at : (x y : List Bool) (i j : ℕ) → length x ≡ i → i ≤ j → getD (x ++ y) j false ≡ getD y (j - i) false
-back-at x y i j e h =
-    let n : j ≡ length x + (j - i) = omega arith in
-    ap (λ (k : ℕ). getD (x ++ y) k false) n ∙ getD-append-add x y (j - i) false
-
-module _ (l : List Bool) where
-  pub insert-before : (i j : ℕ) (b : Bool) → i ≤ length l → j < i → getD (insertAt i b l) j false ≡ getD l j false
-  insert-before i j b h k = let t = length-take-le i l h in List·getD-append (take i l) (b ∷ drop i l) false j (omega arith) ∙ getD-take i l j false k
-
-  pub insert-here : (i : ℕ) (b : Bool) → i ≤ length l → getD (insertAt i b l) i false ≡ b
-  insert-here i b h =
-      let n : i - i ≡ 0 = omega arith in
-      back-at (take i l) (b ∷ drop i l) i i (length-take-le i l h) (omega arith) ∙ ap (λ (k : ℕ). getD (b ∷ drop i l) k false) n
-
-  pub insert-behind : (i j : ℕ) (b : Bool) → i ≤ length l → i < j → getD (insertAt i b l) j false ≡ getD l (j - 1) false
-  insert-behind i j b h k =
-      let n : j - i ≡ suc (j - i - 1) = omega arith in
-      back-at (take i l) (b ∷ drop i l) i j (length-take-le i l h) (omega arith) ∙ ap (λ (k : ℕ). getD (b ∷ drop i l) k false) n
-      ∙ getD-drop i l (j - i - 1) false ∙ ap (λ (k : ℕ). getD l k false) (omega arith)
-
-  pub without-before : (i j : ℕ) → i < length l → j < i → getD (without i l) j false ≡ getD l j false
-  without-before i j h k = let t = length-take-le i l (omega arith) in List·getD-append (take i l) (drop (suc i) l) false j (omega arith) ∙ getD-take i l j false k
-
-  pub without-behind : (i j : ℕ) → i < length l → i ≤ j → getD (without i l) j false ≡ getD l (j + 1) false
-  without-behind i j h k =
-      back-at (take i l) (drop (suc i) l) i j (length-take-le i l (omega arith)) k ∙ getD-drop (suc i) l (j - i) false ∙ ap (λ (k : ℕ). getD l k false) (omega arith)
 
 pub edited-length : (e : Edit) (l : List Bool) (len n : ℕ) → length l ≡ len → Fits e len n → length (edited e l) ≡ n
 edited-length Keep l len n h f = h ∙ sym f
@@ -216,49 +188,6 @@ module _ (e : Edit) (len n : ℕ) (f : Fits e len n) where
 
   pub edited-keep : (s : List ℕ) (start : ℕ) → e ≡ Keep → range s start n ≡ edited e (range s start len)
   edited-keep s start h = ap (range s start) (as-keep h) ∙ ap (λ (x : Edit). edited x (range s start len)) (sym h)
-
-  -- r is bit j of the edited range
-  module _ (s : List ℕ) (start j : ℕ) (k : j < n) where
-    abbrev pub EditBit : Bool → Type 0
-    EditBit r = r ≡ getD (edited e (range s start len)) j false
-
-    by-edit : (x : Edit) (r : Bool) → e ≡ x → r ≡ getD (edited x (range s start len)) j false → EditBit r
-    by-edit x r h q = q ∙ sym (ap (λ (z : Edit). getD (edited z (range s start len)) j false) h)
-
-    pub bit-keep : (r : Bool) → e ≡ Keep → r ≡ bitAt s (start + j) → EditBit r
-    bit-keep r h q = let m = as-keep h in by-edit Keep r h (q ∙ sym (range-at s start len j (omega arith)))
-
-    pub bit-put-before : (i : ℕ) (b r : Bool) → e ≡ Put i b → j < i → r ≡ bitAt s (start + j) → EditBit r
-    bit-put-before i b r h p q =
-        let m = as-put i b h .0 in
-        let z = range-length s start len in
-        by-edit (Put i b) r h (q ∙ sym (insert-before (range s start len) i j b (omega arith) p ∙ range-at s start len j (omega arith)))
-
-    pub bit-put-here : (i : ℕ) (b : Bool) → e ≡ Put i b → j ≡ i → EditBit b
-    bit-put-here i b h p =
-        let m = as-put i b h .0 in
-        let z = range-length s start len in
-        by-edit (Put i b) b h (sym (ap (λ (x : ℕ). getD (insertAt i b (range s start len)) x false) p ∙ insert-here (range s start len) i b (omega arith)))
-
-    pub bit-put-behind : (i : ℕ) (b r : Bool) → e ≡ Put i b → i < j → r ≡ bitAt s (start + (j - 1)) → EditBit r
-    bit-put-behind i b r h p q =
-        let m = as-put i b h .0 in
-        let m′ = as-put i b h .1 in
-        let z = range-length s start len in
-        by-edit (Put i b) r h (q ∙ sym (insert-behind (range s start len) i j b (omega arith) p ∙ range-at s start len (j - 1) (omega arith)))
-
-    pub bit-take-before : (i : ℕ) (r : Bool) → e ≡ Take i → j < i → r ≡ bitAt s (start + j) → EditBit r
-    bit-take-before i r h p q =
-        let m = as-take i h .0 in
-        let z = range-length s start len in
-        by-edit (Take i) r h (q ∙ sym (without-before (range s start len) i j (omega arith) p ∙ range-at s start len j (omega arith)))
-
-    pub bit-take-behind : (i : ℕ) (r : Bool) → e ≡ Take i → i ≤ j → r ≡ bitAt s (start + (j + 1)) → EditBit r
-    bit-take-behind i r h p q =
-        let m = as-take i h .0 in
-        let m′ = as-take i h .1 in
-        let z = range-length s start len in
-        by-edit (Take i) r h (q ∙ sym (without-behind (range s start len) i j (omega arith) p ∙ range-at s start len (j + 1) (omega arith)))
 
 -- ---- bits written over cleared bytes are a packed string
 pub packed-into : (s : List ℕ) (l : List Bool) (n : ℕ) → length l ≡ n → bytesFor n ≤ length s → writeBits (cleared s 0 (bytesFor n)) 0 l ≡ packedInto l s

@@ -1,9 +1,8 @@
-// A range with one bit put in or taken out: its bits, its hash and its copy. The hash is taken of the edited range in place, so that
+// A range with one bit put in or taken out: its hash and its copy. The hash is taken of the edited range in place, so that
 // nothing is written before it is known that the edit is the answer.
 ghost use mathlib.Core.Path.{_≡_};
-ghost use mathlib.Core.Bool.{false};
 ghost use Prim.Native.Nat.{_+_, _-_, _≤_, _<_};
-ghost use lib.ListN.{length, getD};
+ghost use lib.ListN.{length};
 ghost use Rattle.strings.specs.Bits.{range, writeBits, bytesFor, Part};
 ghost use Rattle.codes.specs.Hash.{hash};
 ghost use Rattle.codes.specs.Repair.{without, insertAt};
@@ -20,32 +19,6 @@ pub enum Edit {
 pub enum Repair {
     Found(Edit),
     Nothing,
-}
-
-// Bit j of the edited range, which has n bits.
-pub fn edit_bit(s: &[u8], start: usize, len: usize, e: Edit, n: usize, j: usize) -> bool
-    requires { ⌜ Editable (now s) start len e n ⌝ }
-    requires { ⌜ j < n ⌝ }
-    ensures { λ r. ⌜ r ≡ getD (edited e (range (now (s .entry)) start len)) j false ⌝ }
-{
-    match e {
-        Edit::Keep => strings::get_bit(s, start + j),
-        Edit::Put(i, b) => {
-            if j < i {
-                return strings::get_bit(s, start + j);
-            }
-            if j == i {
-                return b;
-            }
-            strings::get_bit(s, start + (j - 1))
-        }
-        Edit::Take(i) => {
-            if j < i {
-                return strings::get_bit(s, start + j);
-            }
-            strings::get_bit(s, start + (j + 1))
-        }
-    }
 }
 
 // The hash of the range with bit b put in at place i.

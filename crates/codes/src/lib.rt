@@ -1,6 +1,6 @@
 // Codes and hash: the second of the four layers. The syndrome of a string, one bit put in or taken out so that the syndrome is a given
 // number, and the keyed hash. `entries` has what a host calls, on any bytes and numbers; the other modules work on a range of a packed
-// string, for the layers above.
+// string, for the layers above, and require that it lies in the string.
 mod edits;
 mod entries;
 mod places;
@@ -10,20 +10,13 @@ mod sums;
 pub use edits::Edit;
 pub use edits::Repair;
 pub use edits::copy_edited;
-pub use edits::edit_bit;
 pub use edits::hash_edited;
-pub use edits::pack_edited;
 pub use entries::NumberAnswer;
 pub use entries::RepairAnswer;
 pub use entries::hash;
 pub use entries::repair;
 pub use entries::syndrome;
-pub use places::find_put;
 pub use places::find_repair;
-pub use places::find_take;
 pub use rows::hash_of;
-pub use rows::low_bits;
 pub use rows::step;
-pub use sums::count_ones;
 pub use sums::syndrome_of;
-pub use sums::weighted_sum;

@@ -69,7 +69,7 @@ fn put_edit(s: &[u8], start: usize, len: usize, a: usize) -> Edit
 }
 
 // The bit put in that gives the syndrome a. There is one for each a up to len + 1.
-pub fn find_put(s: &[u8], start: usize, len: usize, a: usize) -> Repair
+fn find_put(s: &[u8], start: usize, len: usize, a: usize) -> Repair
     requires { ⌜ Part (now s) start len ⌝ }
     ensures { λ r. ⌜ r ≡ putRepair a (range (now (s .entry)) start len) ⌝ }
 {
@@ -140,7 +140,7 @@ fn take_place(s: &[u8], start: usize, len: usize, a: usize) -> usize
 }
 
 // The bit taken out that gives the syndrome a, if there is one.
-pub fn find_take(s: &[u8], start: usize, len: usize, a: usize) -> Repair
+fn find_take(s: &[u8], start: usize, len: usize, a: usize) -> Repair
     requires { ⌜ Part (now s) start len ⌝ }
     ensures { λ r. ⌜ r ≡ takeRepair a (range (now (s .entry)) start len) ⌝ }
 {

@@ -119,17 +119,8 @@ pub fn sums_of(s: &[u8], start: usize, len: usize) -> Sums
     sum_bytes(s, start, count, behind.ones, behind.sum)
 }
 
-// How many of the bits are 1.
-pub fn count_ones(s: &[u8], start: usize, len: usize) -> usize
-    requires { ⌜ Part (now s) start len ⌝ }
-    ensures { λ r. ⌜ r ≡ ones (range (now (s .entry)) start len) ⌝ }
-{
-    let all = sums_of(s, start, len);
-    all.ones
-}
-
 // The sum of the places of the ones, the first place being 1.
-pub fn weighted_sum(s: &[u8], start: usize, len: usize) -> usize
+fn weighted_sum(s: &[u8], start: usize, len: usize) -> usize
     requires { ⌜ Part (now s) start len ⌝ }
     ensures { λ r. ⌜ r ≡ weightedSum 1 (range (now (s .entry)) start len) ⌝ }
 {

@@ -1,4 +1,5 @@
-// The sheet as a lent slice of rows, and the rebuilder's call over it.
+// The sheet as a lent slice of rows, and the rebuilder's call over it. The functions on rows require that the sheet has them; the call
+// has tested the sheet's length when it comes to them, and requires nothing.
 ghost use mathlib.Core.Path.{_≡_};
 ghost use mathlib.Core.List.{[], _∷_};
 ghost use Prim.Native.Nat.{_-_, _≤_, _<_};

@@ -1,4 +1,5 @@
 // The text of the demonstration program (01, "The demonstration run"): the lines that it reads, and the bytes of those that it prints.
+// A line is written into a buffer that its caller made long enough for every line of its kind; the put_ functions require it.
 ghost use mathlib.Core.Path.{_≡_};
 ghost use mathlib.Core.List.{[], _∷_};
 ghost use Prim.Native.Nat.{_+_, _-_, _*_, _≤_, _<_};

@@ -395,7 +395,7 @@ pub fn write_syndrome(a: u32, v: u32, buf: &mut [u8]) -> WriteResult
     write_two(Kind::Syndrome, a, v, buf)
 }
 
-// The answer to a bits question: the len bits of `x` from bit `start` on.
+// The answer to a bits question: the len bits of `x` from bit `start` on, which the holder has tested to lie in X.
 pub fn write_bits(x: &[u8], start: usize, len: usize, buf: &mut [u8]) -> WriteResult
     requires { ⌜ Part (now x) start len ⌝ }
     ensures { λ r. ⌜ leaves r (now (buf .exit)) ≡ putFront (answerBytes (bitsAnswer (range (now (x .entry)) start len))) (now (buf .entry)) ⌝ }

@@ -1,4 +1,5 @@
 // The states of both ends: what the steps of a run do to the rebuilder's, the question that it asks next, and whether a state is sound.
+// A step requires what every sound state of its phase has: the rebuilder tests a state once, at the start of its call.
 mod sound;
 mod state;
 
