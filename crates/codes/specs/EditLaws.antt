@@ -8,13 +8,13 @@ use Prim.Native.Nat.{ℕ, suc, _+_, _-_, _%_, _^_, _≤_, _<_}
 use native.Mathlib.Nat.{zero-add}
 use native.Mathlib.Decide.{decLt, decLe}
 use native.Mathlib.Omega.{arith}
-use lib.ListN.{length, take, drop, getD, List·getD-append}
-use lib.Seq.{length-take-le, getD-take, getD-drop, getD-append-add, sets, sets-eq}
+use lib.ListN.{length, drop}
+use lib.Seq.{sets, sets-eq}
 use lib.Dec.{eqb, leb, ltb}
 use borrow.Author.Tests.{le-leb, lt-leb, lt-ltb, le-ltb, ltb-true, eq-eqb, ne-eqb}
-use Rattle.strings.specs.Bits.{bitAt, range, bytesFor, setBit, writeBits, cleared, pack}
+use Rattle.strings.specs.Bits.{range, bytesFor, setBit, writeBits, cleared, pack}
 use Rattle.strings.specs.PackLaws.{length-pack, write-cleared}
-use Rattle.strings.specs.RangeLaws.{range-length, range-at, range-take, range-drop}
+use Rattle.strings.specs.RangeLaws.{range-length, range-take, range-drop}
 use Rattle.strings.specs.WriteLaws.{write-next, write-append}
 use Rattle.codes.specs.Repair.{without, insertAt, putIn, takeOut, repairTo}
 use Rattle.codes.specs.RepairLaws.{length-insert, length-without, put-place-within, put-in-filled, put-in-above}

@@ -1,4 +1,4 @@
 -- What the proofs share.
 pub mod Arrays
-pub mod Again
+pub mod Lending
 pub mod LentRows

@@ -12,7 +12,6 @@ use Rattle.messages.specs.declared.Kind.{Kind}
 use Rattle.messages.specs.declared.Kind.the-variants.{Open, Hash, Syndrome, Bits}
 use Rattle.messages.specs.declared.NumberRead.{NumberRead}
 use Rattle.messages.specs.declared.NumberRead.the-variants.{Value, NoNumber}
-use Rattle.messages.specs.declared.KindRead.{KindRead}
 use Rattle.messages.specs.declared.KindRead.the-variants.{Known, NoKind}
 use Rattle.messages.specs.Numbers.{number, numberAt}
 use Rattle.messages.specs.NumberLaws.{number-reads, number-form, size-last}

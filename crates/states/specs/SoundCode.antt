@@ -1,13 +1,13 @@
 -- What the functions of src/sound.rt require, and laws for their proofs. The test itself is defined in protocol, Soundness.
 use mathlib.Core.Path.{_≡_, refl, ap}
-use mathlib.Core.Bool.{Bool, true, false, cond, _&&_}
+use mathlib.Core.Bool.{Bool, true, false, _&&_}
 use mathlib.Core.List.{List, [], _∷_}
-use Prim.Native.Nat.{ℕ, zero, suc, _+_, _-_, _*_, _/_, max, _≤_, _<_}
+use Prim.Native.Nat.{ℕ, suc, _+_, _-_, _*_, _/_, _≤_, _<_}
 use native.Mathlib.Nat.{div-le-self, mul-le-mul}
 use native.Mathlib.Numerals.{add-one}
 use native.Mathlib.Omega.{arith}
-use lib.ListN.{length, getD}
-use lib.Dec.{leb, eqb}
+use lib.ListN.{getD}
+use lib.Dec.{eqb}
 use borrow.Author.Tests.{lt-leb, le-leb, eq-eqb, ne-eqb}
 use Rattle.protocol.specs.declared.Piece.{Piece}
 use Rattle.protocol.specs.declared.Rebuilder.{Rebuilder}

@@ -13,7 +13,7 @@ use Rattle.messages.specs.declared.Question.{Question}
 use Rattle.protocol.specs.declared.Settings.{Settings}
 use Rattle.protocol.specs.declared.Piece.{Piece}
 use Rattle.protocol.specs.declared.Rebuilder.{Rebuilder}
-use Rattle.protocol.specs.States.{top, laterNumber, firstNumber, stacked, popped, pushed, restaged, splitAt, leftPiece, rightPiece, anchorOffset}
+use Rattle.protocol.specs.States.{top, laterNumber, firstNumber, stacked, popped, pushed, restaged, splitAt, leftPiece, rightPiece}
 use Rattle.states.specs.declared.state.Plan.{Plan}
 use Rattle.states.specs.declared.state.Plan.the-variants.{Ask, Finished}
 

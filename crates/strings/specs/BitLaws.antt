@@ -1,5 +1,5 @@
 -- Laws of single bits: what turning a bit over and setting it do to each bit.
-use mathlib.Core.Path.{_≡_, refl, sym, ap, _∙_}
+use mathlib.Core.Path.{_≡_, refl, ap, _∙_}
 use mathlib.Core.Bool.{Bool, true, false, not, cond, Bool·beq}
 use mathlib.Core.Logic.{_≢_}
 use mathlib.Core.List.{List, [], _∷_, _++_}
@@ -8,7 +8,7 @@ use native.Mathlib.Nat.{zero-div, zero-mul, one-mul, mod-eq-of-lt, div-self, div
 use native.Mathlib.Decide.{ℕ-discrete, decLt}
 use native.Mathlib.Omega.{arith}
 use lib.ListN.{List·getD-eq-default, List·getD-append, length, getD, set, length-set}
-use lib.Seq.{getD-set-same, getD-set-other, set-getD, set-append-left, set-out, getD-append-add}
+use lib.Seq.{getD-set-same, getD-set-other, set-getD, set-append-left, getD-append-add}
 use lib.Dec.{eqb}
 use lib.Bits.{bitXor, differ, xor-shr, xor-step, xor-zero-r}
 use lib.Pow.{pow-lt, pow-pos, pow-add, shl-shr}

@@ -7,7 +7,7 @@ use native.Mathlib.Nat.{zero-add, suc-add, add-zero, add-suc}
 use native.Mathlib.Numerals.{add-one}
 use native.Mathlib.Omega.{arith}
 use lib.ListN.{take, drop, length, getD}
-use lib.Seq.{take-at, drop-at, ext-getD}
+use lib.Seq.{take-at, drop-at}
 use Rattle.strings.specs.Bits.{bitAt, range, setBit, sameBits, differs}
 use Rattle.strings.specs.Tests.{true-false}
 use Rattle.strings.specs.BitLaws.{setBit-other, bit-behind, bit-front}

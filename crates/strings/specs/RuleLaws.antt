@@ -1,15 +1,15 @@
 -- Laws of the string rule: the test and the statement say the same, and what the code may look at instead.
 use mathlib.Core.Path.{_≡_, refl, sym, ap, ap₂, _∙_}
 use mathlib.Core.Bool.{Bool, true, false, _&&_}
-use mathlib.Core.List.{List, [], _∷_, _++_}
+use mathlib.Core.List.{List, [], _∷_}
 use Prim.Native.Nat.{ℕ, zero, suc, _+_, _-_, _*_, _/_, _%_, _^_, _≤_, _<_}
-use native.Mathlib.Nat.{zero-mod, zero-div, mod-one, mod-lt}
-use native.Mathlib.Decide.{decLt, ℕ-discrete}
+use native.Mathlib.Nat.{zero-mod, zero-div, mod-one}
+use native.Mathlib.Decide.{decLt}
 use native.Mathlib.Omega.{arith}
 use lib.ListN.{length, getD}
 use lib.Dec.{eqb, leb}
 use lib.Pow.{field, mod-mod-pow, mod-pow-add}
-use borrow.Author.Tests.{eqb-true, eqb-false, eq-eqb, ne-eqb, le-leb, lt-leb, leb-true}
+use borrow.Author.Tests.{eqb-true, eq-eqb, le-leb, leb-true}
 use Rattle.strings.specs.Bits.{bitAt, range, bytesFor}
 use Rattle.strings.specs.StringRule.{noneSet, stringRule, IsString}
 use Rattle.strings.specs.Tests.{true-false, and-left, and-right}

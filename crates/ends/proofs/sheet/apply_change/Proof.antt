@@ -52,7 +52,8 @@ use Rattle.protocol.proofs.Row.Laws as T′
 use Rattle.protocol.proofs.SheetChange as E
 use Rattle.protocol.proofs.SheetChange.Laws as E′
 use Rattle.ends.specs.SheetCallLaws.{length-after}
-use Rattle.ends.proofs.LentRows.{WriteRow, ClearRows, sheet, Sheet, write-row-called, write-row-called-last, clear-rows-called-last}
+use Rattle.ends.proofs.LentRows.{WriteRow, ClearRows, write-row-called, write-row-called-last, clear-rows-called-last}
+use Rattle.ends.proofs.Lending.{sheet, Sheet}
 use Rattle.ends.proofs.sheet.write_row.Symbol as write-row-def
 use Rattle.ends.proofs.sheet.write_row.Symbol.{name as #ends·write-row}
 use Rattle.ends.proofs.sheet.write_row.Met as write-row-thm
