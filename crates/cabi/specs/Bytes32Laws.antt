@@ -1,19 +1,14 @@
--- What was written is read back, and the other way round.
+-- What was written is read back.
 use mathlib.Core.Path.{_≡_, refl, sym, ap, _∙_}
-use mathlib.Core.List.{List, [], _∷_, _++_}
+use mathlib.Core.List.{List, _++_}
 use Prim.Native.Nat.{ℕ, suc, _+_, _*_, _/_, _%_, _≤_, _<_}
-use native.Mathlib.Nat.{add-assoc, add-zero, div-div-eq-div-mul, mod-eq-of-lt}
+use native.Mathlib.Nat.{add-assoc, div-div-eq-div-mul, mod-eq-of-lt}
 use native.Mathlib.Omega.{arith}
-use native.Mathlib.Numerals.{add-one}
-use lib.ListN.{length, getD, set, take, drop}
-use lib.Seq.{sets, drop-cons, getD-append-add}
+use lib.ListN.{length, getD, set}
+use lib.Seq.{sets, getD-append-add}
 use Rattle.strings.specs.PackLaws.{Bytes}
 use Rattle.cabi.specs.Bytes32.{bytesOf, numberAt}
 use Rattle.cabi.specs.StoreLaws.{getD-sets-before, getD-sets-behind, getD-sets-in}
-
-pub length-bytesOf : (v : ℕ) → length (bytesOf v) ≡ 4
-unfolding bytesOf
-length-bytesOf v = refl
 
 -- a number's digits to base 256
 pub digits : (v : ℕ) → v < 4294967296 → v % 256 + 256 * (v / 256 % 256) + 65536 * (v / 65536 % 256) + 16777216 * (v / 16777216 % 256) ≡ v
@@ -31,11 +26,6 @@ digits v h =
 
     sums : (v a b c q r s t : ℕ) → q + 256 * a ≡ v → r + 256 * b ≡ a → s + 256 * c ≡ b → t ≡ c → q + 256 * r + 65536 * s + 16777216 * t ≡ v
     sums v a b c q r s t e f g h = omega arith
-
--- what was written is read: in front of a list
-pub number-written : (v : ℕ) (l : List ℕ) → v < 4294967296 → numberAt (bytesOf v ++ l) 0 ≡ v
-unfolding bytesOf numberAt
-number-written v l h = digits v h
 
 -- behind a list, offsets count on
 pub number-behind : (p l : List ℕ) (i : ℕ) → numberAt (p ++ l) (length p + i) ≡ numberAt l i
@@ -61,47 +51,12 @@ module _ (s : List ℕ) (at : ℕ) (vs : List ℕ) where
   number-in i h k =
       rw (add-assoc at i 1, add-assoc at i 2, add-assoc at i 3, getD-sets-in s at vs i 0 (omega arith) k, getD-sets-in s at vs (i + 1) 0 (omega arith) k, getD-sets-in s at vs (i + 2) 0 (omega arith) k, getD-sets-in s at vs (i + 3) 0 (omega arith) k) refl
 
--- stored at any offset
-pub number-stored : (s : List ℕ) (at v : ℕ) → v < 4294967296 → at + 4 ≤ length s → numberAt (sets s at (bytesOf v)) at ≡ v
-unfolding bytesOf numberAt
-number-stored s at v h k =
-    ap (λ (i : ℕ). numberAt (sets s at (bytesOf v)) i) (sym (add-zero at)) ∙ number-in s at (bytesOf v) 0 (omega arith) (omega arith) ∙ digits v h
-
 -- what was read is below 2^32
 pub number-below : (s : List ℕ) (at : ℕ) → Bytes s → numberAt s at < 4294967296
 unfolding numberAt
 number-below s at b =
     let b0 = b at in let b1 = b (at + 1) in let b2 = b (at + 2) in let b3 = b (at + 3) in
     omega arith
-
--- writing what was read gives the bytes back
-module _ (a b c d : ℕ) (ha : a < 256) (hb : b < 256) (hc : c < 256) (hd : d < 256) where
-  digit-0 : (a + 256 * b + 65536 * c + 16777216 * d) % 256 ≡ a
-  digit-0 = omega arith
-
-  digit-1 : (a + 256 * b + 65536 * c + 16777216 * d) / 256 % 256 ≡ b
-  digit-1 = omega arith
-
-  digit-2 : (a + 256 * b + 65536 * c + 16777216 * d) / 65536 % 256 ≡ c
-  digit-2 = omega arith
-
-  digit-3 : (a + 256 * b + 65536 * c + 16777216 * d) / 16777216 % 256 ≡ d
-  digit-3 = omega arith
-
-drop-next : (s : List ℕ) (i j : ℕ) → i < length s → i + 1 ≡ j → drop i s ≡ getD s i 0 ∷ drop j s
-drop-next s i j h e = drop-cons s i 0 h ∙ ap (λ (k : ℕ). getD s i 0 ∷ drop k s) (sym (add-one i) ∙ e)
-
-take-four : (s : List ℕ) (at : ℕ) → at + 4 ≤ length s → take 4 (drop at s) ≡ getD s at 0 ∷ getD s (at + 1) 0 ∷ getD s (at + 2) 0 ∷ getD s (at + 3) 0 ∷ []
-take-four s at h =
-    rw (drop-next s at (at + 1) (omega arith) refl, drop-next s (at + 1) (at + 2) (omega arith) (omega arith), drop-next s (at + 2) (at + 3) (omega arith) (omega arith), drop-next s (at + 3) (at + 4) (omega arith) (omega arith))
-    refl
-
-pub bytes-read : (s : List ℕ) (at : ℕ) → Bytes s → at + 4 ≤ length s → bytesOf (numberAt s at) ≡ take 4 (drop at s)
-unfolding bytesOf numberAt
-bytes-read s at b h =
-    let b0 = b at in let b1 = b (at + 1) in let b2 = b (at + 2) in let b3 = b (at + 3) in
-    rw (digit-0 _ _ _ _ b0 b1 b2 b3, digit-1 _ _ _ _ b0 b1 b2 b3, digit-2 _ _ _ _ b0 b1 b2 b3, digit-3 _ _ _ _ b0 b1 b2 b3)
-    (sym (take-four s at h))
 
 -- ---- for the code
 -- four bytes stored one by one

@@ -24,20 +24,6 @@ pub length-row : (r : Row) → length (rowBytes r) ≡ 12
 unfolding rowBytes allBytes bytesOf
 length-row r = refl
 
-pub length-rowsAt : (s : List ℕ) (at n : ℕ) → length (rowsAt s at n) ≡ n
-unfolding rowsAt
-length-rowsAt s at zero = refl
-length-rowsAt s at (suc n) = ap suc (length-rowsAt s (at + 12) n)
-
-pub length-rowsIn : (s : List ℕ) → length (rowsIn s) ≡ length s / 12
-unfolding rowsIn
-length-rowsIn s = length-rowsAt s 0 (length s / 12)
-
-pub length-sheet : (s : List ℕ) (k : SheetChange) → length (sheetBytesAfter s k) ≡ length s
-length-sheet s NoRow = refl
-length-sheet s (AddRow i r) = length-sets s (12 * i) (rowBytes r)
-length-sheet s (OneRow used r) = length-sets s 0 (rowsBytes (r ∷ replicate (used - 1) noRow))
-
 -- ---- one row stored
 -- every number of a row is below 2^32, as of any row that code holds
 pub record RowFits (r : Row) : Type 0 where

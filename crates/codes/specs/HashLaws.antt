@@ -86,10 +86,6 @@ pub hash-cons : (h v : ℕ) (b : Bool) (l : List Bool) → hashFrom h v (b ∷ l
 unfolding hashFrom
 hash-cons h v b l = refl
 
-pub hash-is : (h key : ℕ) (l : List Bool) → hash h key l ≡ hashFrom h key l
-unfolding hash
-hash-is h key l = refl
-
 pub hash-equal : (h key : ℕ) (l m : List Bool) → l ≡ m → hash h key l ≡ hash h key m
 hash-equal h key l m e = ap (hash h key) e
 

@@ -342,10 +342,6 @@ module _ (a : ℕ) (l : List Bool) where
   unfolding putIn
   put-in-found x e = let f = with-syndrome-found a (insertions l) x e in (insertions-delete l x (f .0), f .1)
 
-  pub put-in-none : putIn a l ≡ none → (x : List Bool) → Deletion l x → syndrome x ≡ a → ⊥
-  unfolding putIn
-  put-in-none e x d s = with-syndrome-none a (insertions l) e x (member-of-insertions l x d) s
-
   -- at most one
   pub put-in-unique : (x : List Bool) → Deletion l x → syndrome x ≡ a → putIn a l ≡ some x
   unfolding putIn

@@ -13,7 +13,7 @@ use borrow.Author.Tests.{lt-ltb, le-ltb}
 use Rattle.strings.specs.Bits.{bitAt, range}
 use Rattle.strings.specs.RangeLaws.{rest, rest-is, rest-last, range-length}
 use Rattle.messages.specs.WritingLaws.{sets-append}
-use Rattle.lines.specs.Printing.{Puts, hexDigit, hexOf, digitsIn, decimal, bitByte, bitBytes, messageLine, rowLine, lastLine, refusalLine}
+use Rattle.lines.specs.Printing.{Puts, hexDigit, hexOf, digitsIn, decimal, bitByte, bitBytes, messageLine, lastLine, refusalLine}
 
 -- bytes written one behind the other
 pub puts-next : {buf l t m u : List ℕ} {at i j : ℕ} → Puts buf at l t i → Puts t i m u j → Puts buf at (l ++ m) u j
@@ -137,14 +137,6 @@ length-message-line letter message = let a = length-append (hexOf message) (10 �
 -- a blank, a number and what follows
 length-next : (v : ℕ) (l : List ℕ) → length (32 ∷ (decimal v ++ l)) ≤ 11 + length l
 length-next v l = let a = length-append (decimal v) l in let b = length-decimal v in omega arith
-
-pub length-row-line : (start len how : ℕ) → length (rowLine start len how) ≤ 35
-unfolding rowLine
-length-row-line start len how =
-    let a = length-next how (10 ∷ []) in
-    let b = length-next len (32 ∷ (decimal how ++ (10 ∷ []))) in
-    let c = length-next start (32 ∷ (decimal len ++ (32 ∷ (decimal how ++ (10 ∷ []))))) in
-    omega arith
 
 pub length-last-line : (s : List ℕ) (n questions counted : ℕ) → length (lastLine (range s 0 n) questions counted) ≤ n + 25
 unfolding lastLine

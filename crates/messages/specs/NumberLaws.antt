@@ -7,8 +7,8 @@ use native.Mathlib.Nat.{mul-add, mul-assoc}
 use native.Mathlib.Numerals.{add-one}
 use native.Mathlib.Decide.{decLt}
 use native.Mathlib.Omega.{arith}
-use lib.ListN.{length, getD, set, take, drop, length-drop, drop-of-length-le, List·getD-append}
-use lib.Seq.{sets, getD-append-add, drop-drop, drop-append-seam, drop-append-le, drop-cons, drop-at, take-at, take-add, length-take-le}
+use lib.ListN.{length, getD, set, take, drop, length-drop, drop-of-length-le}
+use lib.Seq.{sets, drop-drop, drop-append-seam, drop-append-le, drop-cons, drop-at, take-at, take-add, length-take-le}
 use lib.Dec.{ltb, leb, eqb}
 use borrow.Author.Tests.{lt-ltb, le-ltb, le-leb, lt-leb, eq-eqb, ne-eqb, ltb-true, ltb-false, leb-false, eqb-false}
 use Rattle.strings.specs.PackLaws.{Bytes}
@@ -87,35 +87,6 @@ size-short v h = go (decLt v 128) (decLt v 16384)
     go (no l) (no m) = let e = size-three v (omega arith) (omega arith) in omega arith
 
 -- ---- a number's bytes are bytes
-groups-bytes : (k v : ℕ) → v < lim k → Bytes (groups k v)
-unfolding groups
-groups-bytes zero v h zero = omega arith
-groups-bytes zero v h (suc i) = omega arith
-groups-bytes (suc k) v h i = by-test (λ (l : List ℕ). getD l i 0 < 256) (ltb v 128) (λ e. short i (ltb-true v 128 e)) (λ e. long i (groups-bytes k (v / 128) (omega arith)))
-  where
-    short : (i : ℕ) → v < 128 → getD (v ∷ []) i 0 < 256
-    short zero l = omega arith
-    short (suc i) l = omega arith
-
-    long : (i : ℕ) → Bytes (groups k (v / 128)) → getD ((v % 128 + 128) ∷ groups k (v / 128)) i 0 < 256
-    long zero b = omega arith
-    long (suc i) b = b i
-
-pub number-bytes : (v : ℕ) → v < 4294967296 → Bytes (number v)
-unfolding number
-number-bytes v h = groups-bytes 4 v (omega arith)
-
-pub append-bytes : (s t : List ℕ) → Bytes s → Bytes t → Bytes (s ++ t)
-append-bytes s t h k i = go (decLt i (length s))
-  where
-    go : Dec (i < length s) → getD (s ++ t) i 0 < 256
-    go (yes l) = let e = List·getD-append s t 0 i l in let b = h i in omega arith
-    go (no l) =
-        let e = getD-append-add s t (i - length s) 0 in
-        let f : length s + (i - length s) ≡ i = omega arith in
-        let g : getD (s ++ t) i 0 ≡ getD t (i - length s) 0 = rw f at e in
-        let b = k (i - length s) in omega arith
-
 -- ---- a turn of the writer, and its end
 pub write-turn : (s u : List ℕ) (i v : ℕ) → 128 ≤ v → v < 4294967296 → sets s i (number v) ≡ u → sets (set s i (v % 128 + 128)) (i + 1) (number (v / 128)) ≡ u
 write-turn s u i v h m f = rw (add-one) (rw (number-next v h m) at f)

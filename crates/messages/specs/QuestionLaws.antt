@@ -21,9 +21,9 @@ use Rattle.messages.specs.declared.Question.the-variants.{AskOpen, AskHa
 use Rattle.messages.specs.declared.QuestionRead.{QuestionRead}
 use Rattle.messages.specs.declared.QuestionRead.the-variants.{Asked, NoQuestion}
 use Rattle.messages.specs.Numbers.{number, numberAt}
-use Rattle.messages.specs.NumberLaws.{number-reads, number-reads-last, number-form, number-form-last, drop-past, ends-there, append-bytes, number-bytes, size-last, size-some, size-most, size-short}
+use Rattle.messages.specs.NumberLaws.{number-reads, number-reads-last, number-form, number-form-last, drop-past, ends-there, size-last, size-some, size-most, size-short}
 use Rattle.messages.specs.Kinds.{kindNumber, kindAt}
-use Rattle.messages.specs.KindLaws.{kind-most, kind-size, kind-reads, kind-form}
+use Rattle.messages.specs.KindLaws.{kind-size, kind-reads, kind-form}
 use Rattle.messages.specs.Questions.{questionKind, asking, questionBytes, thenAsk, noQuestionIf, openingIn, openingAt, rangeIn, rangeAt, fieldsAt, thenFields, readQuestion}
 
 -- ---- the limits of 01: h 8 to 32, key 1 to 2^32 - 1; a range of 1 bit or more that ends by n
@@ -97,23 +97,6 @@ question-size n q m r =
     let k = kind-size (questionKind q) in
     let p = ap length (question-parts q) in
     omega arith
-
--- every element is a byte
-range-bytes : (n start len : ℕ) → n ≤ 65536 → RangeWithin n start len → Bytes (number start ++ number len)
-range-bytes n start len m r = let x = r .ends in append-bytes (number start) (number len) (number-bytes start (omega arith)) (number-bytes len (omega arith))
-
-field-bytes : (n : ℕ) (q : Question) → n ≤ 65536 → InRange n q → Bytes (fieldBytes q)
-field-bytes n (AskOpen h key) m r =
-    let x = r .within .h-most in
-    append-bytes (number 1) (number h ++ number key) (number-bytes 1 (omega arith)) (append-bytes (number h) (number key) (number-bytes h (omega arith)) (number-bytes key (r .key-most)))
-field-bytes n (AskHash start len) m r = range-bytes n start len m (r .within)
-field-bytes n (AskSyndrome start len) m r = range-bytes n start len m (r .within)
-field-bytes n (AskBits start len) m r = range-bytes n start len m (r .within)
-
-pub question-bytes : (n : ℕ) (q : Question) → n ≤ 65536 → InRange n q → Bytes (questionBytes q)
-question-bytes n q m r =
-    let k = kind-most (questionKind q) in
-    rw (question-parts q) (append-bytes (number (kindNumber (questionKind q))) (fieldBytes q) (number-bytes (kindNumber (questionKind q)) (omega arith)) (field-bytes n q m r))
 
 -- ---- as the code meets them: r is what a number reader gave
 module _ (s : List ℕ) (at : ℕ) {r : NumberRead} (p : r ≡ numberAt s at) where

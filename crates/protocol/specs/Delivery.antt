@@ -11,8 +11,7 @@ use lib.Dec.{leb, ltb}
 use borrow.Author.Tests.{leb-true}
 use Rattle.messages.specs.Answers.{Answer}
 use Rattle.messages.specs.QuestionLaws.{InRange}
-use Rattle.messages.specs.Questions.{questionBytes, questionKind}
-use Rattle.messages.specs.declared.Kind.the-variants.{Open}
+use Rattle.messages.specs.Questions.{questionBytes}
 use Rattle.messages.specs.declared.Question.{Question}
 use Rattle.messages.specs.declared.Question.the-variants.{AskBits, AskHash, AskOpen, AskSyndrome}
 use Rattle.protocol.specs.Limits.{Limits, withinLimits}
@@ -59,12 +58,6 @@ ask-not-open S x [] q k = let z : _≡_ {A = ℕ} 0 1 = cc in absurd (omega arit
 ask-not-open S x (dropped ys ∷ r) q k = ask-not-open S x r q k
 ask-not-open S x (settled w ys b ∷ r) q k = ask-not-open S (x + length b) r q k
 ask-not-open S x (waiting p ys t ∷ r) q k = let e : asks S x p t ≡ q = cc in rw e at (asks-not-open S x p t)
-
-pub not-open-kind : (q : Question) → NotOpen q → questionKind q ≡ Open → ⊥
-not-open-kind (AskOpen h key) n e = n
-not-open-kind (AskHash x p) n e = let z : _≡_ {A = ℕ} 0 1 = cc in omega arith
-not-open-kind (AskSyndrome x p) n e = let z : _≡_ {A = ℕ} 0 1 = cc in omega arith
-not-open-kind (AskBits x p) n e = let z : _≡_ {A = ℕ} 0 1 = cc in omega arith
 
 abbrev pub NotOpening : Run → Type 0
 NotOpening opening = ⊥

@@ -136,9 +136,6 @@ pub data Made (st : Holder) (bits : ℕ) (q : Question) (next : Holder) : Type 0
 pub heard-made : (st : Holder) (x : List ℕ) (bits : ℕ) (msg : List ℕ) (room : ℕ) (next : Holder) (reply : List ℕ) (k : HeardCall st x bits msg room next reply) → Made st bits (k .q) next
 heard-made st x bits msg room next reply k = go (k .q) (turn-open (st .opened) (k .kind) (k .turn)) (fields-within (k .kind) msg (k .at) bits (k .q) (k .fields)) (k .after)
   where
-    open-kind : (q : Question) → questionKind q ≡ Open → Within bits q → (questionKind q ≡ Open → ⊥) → ⊥
-    open-kind q e w n = n e
-
     go : (q : Question) → ((k .kind ≡ Open) × (st .opened ≡ 0)) ⊎ ((k .kind ≡ Open → ⊥) × (st .opened ≡ 1)) → (questionKind q ≡ k .kind) × Within bits q → next ≡ afterAnswer st bits q → Made st bits q next
     go (AskOpen h key) (inl t) w e = opens (t .1) h key refl (w .1) e
     go (AskOpen h key) (inr t) w e = absurd (t .0 (sym (w .0)))

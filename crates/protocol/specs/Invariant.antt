@@ -35,11 +35,6 @@ sizeOfRun opening = 0
 sizeOfRun (working n c segs rows) = n
 sizeOfRun (whole n c segs rows) = n
 
--- each answer is one that a reader lets through
-abbrev pub Taken : Settings → List Bool → List Answer → Type 0
-Taken S Y [] = Unit {0}
-Taken S Y (a ∷ l) = Taken S Y l × ((q : Question) × (question S (run S Y l) ≡ some q) × Proper S q a)
-
 waits-some : (S : Settings) (x : ℕ) (segs : List Segment) → waits segs ≡ true → (q : Question) × (ask S x segs ≡ some q)
 waits-some S x [] e = let z : _≡_ {A = ℕ} 0 1 = cc in absurd (omega arith)
 waits-some S x (dropped ys ∷ r) e = waits-some S x r e
@@ -187,11 +182,6 @@ module _ (S : Settings) (Y : List Bool) where
         judge-ok (asked + 1) n (c + sizeOf a) (step S a segs) (rows ++ newRows S a 0 segs) (step-held n segs rows q a k o (h .0)) (omega arith) (omega arith)
     advance-ok asked (whole n c segs rows) q a k o h =
         let e : AskBits 0 n ≡ q = cc in last-ok asked n c segs rows a (rw e o) h
-
-    -- ---- any proper answers, the last one first
-    pub any-ok : (l : List Answer) → Taken S Y l → Inv (length l) (run S Y l)
-    any-ok [] h = refl
-    any-ok (a ∷ l) h = rw (← add-one) (advance-ok (length l) (run S Y l) (h .1 .0) a (h .1 .1) (h .1 .2) (any-ok l (h .0)))
 
 -- ---- what holds besides if the answers are the holder's
 abbrev pub Truth : Settings → List Bool → Run → Type 0

@@ -182,9 +182,6 @@ pub not-true : (t : Bool) → not t ≡ true → t ≡ false
 not-true true e = sym e
 not-true false e = refl
 
-or-right : (a b : Bool) → a ≡ false → a || b ≡ true → b ≡ true
-or-right a b e f = rw e at f
-
 three-fits : (S : Settings) → Limits S → (p q : ℕ) → tooSmall S p q ≡ false → Fits S p (middle (S .m) p ∷ (middle (S .m) p + S .m) ∷ (middle (S .m) p - S .m) ∷ [])
 unfolding laterStage
 three-fits S L p q e = rw e at (later-ok S L p q)

@@ -211,12 +211,6 @@ pub string-append : (f l : List Segment) → string (f ++ l) ≡ string f ++ str
 string-append [] l = refl
 string-append (s ∷ f) l = ap (λ (k : List Bool). bitsOf s ++ k) (string-append f l) ∙ sym (append-assoc (bitsOf s) (string f) (string l))
 
-waits-front : (f l : List Segment) → waits f ≡ false → waits (f ++ l) ≡ waits l
-waits-front [] l e = refl
-waits-front (dropped ys ∷ f) l e = waits-front f l e
-waits-front (settled w ys b ∷ f) l e = waits-front f l e
-waits-front (waiting p ys t ∷ f) l e = absurd (true-false e)
-
 -- the bits settled are as many as the pieces span
 bits-span : (s : Segment) → length (bitsOf s) ≡ span s
 bits-span (dropped ys) = refl

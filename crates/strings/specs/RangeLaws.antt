@@ -8,9 +8,9 @@ use native.Mathlib.Numerals.{add-one}
 use native.Mathlib.Omega.{arith}
 use lib.ListN.{take, drop, length, getD}
 use lib.Seq.{take-at, drop-at}
-use Rattle.strings.specs.Bits.{bitAt, range, setBit, sameBits, differs}
+use Rattle.strings.specs.Bits.{bitAt, range, sameBits, differs}
 use Rattle.strings.specs.Tests.{true-false}
-use Rattle.strings.specs.BitLaws.{setBit-other, bit-behind, bit-front}
+use Rattle.strings.specs.BitLaws.{bit-behind}
 
 pub range-length : (s : List ℕ) (a n : ℕ) → length (range s a n) ≡ n
 unfolding range
@@ -71,13 +71,6 @@ range-part s a n x p h = ap (take p) (range-drop s a n x (omega arith)) ∙ rang
 -- bytes in front and behind
 pub range-behind : (s t : List ℕ) (a n : ℕ) → range (s ++ t) (8 * length s + a) n ≡ range t a n
 range-behind s t a n = range-equal (s ++ t) t (8 * length s + a) a n (λ j l. ap (bitAt (s ++ t)) (let e : 8 * length s + a + j ≡ 8 * length s + (a + j) = omega arith in e) ∙ bit-behind s t (a + j))
-
-pub range-front : (s t : List ℕ) (a n : ℕ) → a + n ≤ 8 * length s → range (s ++ t) a n ≡ range s a n
-range-front s t a n h = range-equal (s ++ t) s a a n (λ j l. bit-front s t (a + j) (omega arith))
-
--- a bit set outside of a range
-pub range-setBit : (s : List ℕ) (a n k : ℕ) (b : Bool) → k < 8 * length s → ((j : ℕ) → a ≤ j → j < a + n → j ≡ k → ⊥) → range (setBit s k b) a n ≡ range s a n
-range-setBit s a n k b h o = range-same (setBit s k b) s a n (λ j p q. setBit-other s k j b h (o j p q))
 
 -- ---- a loop over the n bits from place a on, at its turn i: what is left to read
 abbrev pub rest : List ℕ → ℕ → ℕ → ℕ → List Bool
