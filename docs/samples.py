@@ -68,9 +68,24 @@ for n in range(9):
         blank = lambda words: "".join(" " + word for word in words)
         print(" %s: %d;%s;%s" % (bits or "empty", syndrome(bits), blank(more), blank(less)))
 line("put-ins:", put_ins)
-for title, x, y in [("63 ones, copy of 80 zeros:", "1" * 63, "0" * 80), ("64 ones, copy of 80 zeros:", "1" * 64, "0" * 80), ("100, copy 0000:", "100", "0000")]:
-    line(title)
-    run(8, 8, 1, 1, 100, x, y, print)
+
+
+def messages(letter, x, y):
+    """The questions (Q) or answers (A) of a run, each as numbers, the opening's question left out."""
+    shown = []
+    run(8, 8, 1, 1, 100, x, y, shown.append)
+    found = [bytes.fromhex(text[2:]) for text in shown if text[0] == letter]
+    return "".join(" " + " ".join(str(b) for b in message) + ";" for message in found)
+
+
+def questions(x, y):
+    return messages("Q", x, y).split(";", 1)[1] + " finished;"
+
+
+print("questions for 63 bits, copy of 80 zeros:" + questions("1" * 63, "0" * 80).split(";")[0] + ";")
+print("questions for 64 ones, copy of 80 zeros:" + questions("1" * 64, "0" * 80))
+print("answers for 100:" + messages("A", "100", "0000"))
+print("questions for 100, copy 0000:" + questions("100", "0000"))
 ones = ["0" * r + "1" * 8 + "0" * (58 - r) for r in range(59)]
 places = [place("1" * 8, 28, 64, copy, 1) for copy in ones]
 assert [r for r in places if r is not None] == list(range(21, 38))

@@ -1,11 +1,291 @@
-// The demonstration program (01, "The demonstration run"): reads the settings, X and Y, and runs both ends on them.
+// The demonstration program (01, "The demonstration run"): reads the settings, X and Y, runs both ends, and prints every message, the
+// rows and the rebuilt string, or the number of the refusal.
 ghost use Prim.Native.Nat.{_≤_};
+ghost use lib.ListN.{length};
+use ends::HolderAnswer;
+use ends::HolderOut;
+use ends::RebuilderAnswer;
+use ends::RebuilderOut;
+use ends::StartAnswer;
 use libc::STDIN_FILENO;
+use libc::STDOUT_FILENO;
 use lines::SettingsRead;
 use lines::StringRead;
+use protocol::Holder;
+use protocol::Rebuilder;
+use protocol::Row;
 use protocol::Settings;
-use session::print_refusal;
+use protocol::SheetChange;
 use strings::Refusal;
+
+// How far the run is: a question of so many bytes waits for its answer, X is rebuilt, or a call was turned down.
+enum Progress {
+    Asking(usize),
+    Rebuilt,
+    TurnedDown(Refusal),
+}
+
+// Both ends' states, and the bytes of row lines written so far.
+struct Session {
+    progress: Progress,
+    holder: Holder,
+    rebuilder: Rebuilder,
+    row_bytes: usize,
+}
+
+fn print(text: &[u8]) {
+    io::write_all(STDOUT_FILENO, text);
+}
+
+// The smaller number: no message is longer than its buffer.
+fn at_most(v: usize, limit: usize) -> usize
+    ensures { λ r. ⌜ r ≤ limit ⌝ }
+{
+    if limit < v {
+        return limit;
+    }
+    v
+}
+
+// The first `size` bytes.
+fn print_front(text: &[u8], size: usize) {
+    let end = at_most(size, text.len());
+    print(&text[0..end]);
+}
+
+fn print_message(letter: u8, message: &[u8])
+    requires { ⌜ length (now message) ≤ 8200 ⌝ }
+{
+    let mut line = [0u8; 16403];
+    let end = lines::put_message_line(&mut line, 0, letter, message);
+    print(&line[0..end]);
+}
+
+// The line of a call that is turned down.
+fn print_refusal(e: Refusal) {
+    let mut line = [0u8; 13];
+    let end = lines::put_refusal_line(&mut line, 0, strings::refusal_number(e));
+    print(&line[0..end]);
+}
+
+// The last line of a finished run; the opening is not among its questions.
+fn print_last(string: &[u8; 8192], st: Rebuilder) {
+    if 65536 < st.n {
+        return print_refusal(Refusal::NoRoom);
+    }
+    if st.answered == 0 {
+        return print_refusal(Refusal::OutOfTurn);
+    }
+    let mut line = [0u8; 65561];
+    let end = lines::put_last_line(
+        &mut line,
+        0,
+        string,
+        st.n as usize,
+        st.answered - 1,
+        st.counted,
+    );
+    print(&line[0..end]);
+}
+
+// A row line is written behind the first `at` bytes, if there is room for it. Gives the bytes of row lines.
+fn add_row(text: &mut [u8; 262195], at: usize, row: Row) -> usize {
+    if 262160 < at {
+        return at;
+    }
+    lines::put_row_line(text, at, row.start, row.len, row.how)
+}
+
+// What a call of the rebuilder does to the sheet is done to the row lines: one more line, or one in place of all.
+fn change_rows(text: &mut [u8; 262195], at: usize, change: SheetChange) -> usize {
+    match change {
+        SheetChange::NoRow => at,
+        SheetChange::AddRow(index, row) => add_row(text, at, row),
+        SheetChange::OneRow(index, row) => add_row(text, 0, row),
+    }
+}
+
+fn progress_of(answer: RebuilderAnswer) -> Progress {
+    match answer {
+        RebuilderAnswer::Asks(size) => Progress::Asking(size),
+        RebuilderAnswer::Finished => Progress::Rebuilt,
+        RebuilderAnswer::Refused(e) => Progress::TurnedDown(e),
+    }
+}
+
+// The answer, the first `size` bytes of its buffer, goes to the rebuilder. The sheet has rows for any run: 2 * (65536 / 8) + 1.
+fn tell(
+    st: Rebuilder,
+    y: &[u8],
+    bits: usize,
+    reply: &[u8],
+    size: usize,
+    string: &mut [u8; 8192],
+    question: &mut [u8; 8],
+) -> RebuilderOut
+    requires { ⌜ length (now reply) ≤ 8200 ⌝ }
+{
+    let sent = at_most(size, reply.len());
+    print_message(b'A', &reply[0..sent]);
+    ends::rebuilder_call(st, y, bits, &reply[0..sent], 16385, string, question)
+}
+
+// The session after an answer of so many bytes.
+fn hear(
+    s: Session,
+    y: &[u8],
+    bits: usize,
+    reply: &[u8; 8200],
+    size: usize,
+    string: &mut [u8; 8192],
+    question: &mut [u8; 8],
+    text: &mut [u8; 262195],
+) -> Session {
+    let out = tell(s.rebuilder, y, bits, reply, size, string, question);
+    let change = out.sheet;
+    let answer = out.answer;
+    let rebuilder = out.state;
+    let holder = s.holder;
+    let row_bytes = change_rows(text, s.row_bytes, change);
+    Session {
+        progress: progress_of(answer),
+        holder: holder,
+        rebuilder: rebuilder,
+        row_bytes: row_bytes,
+    }
+}
+
+fn with_progress(s: Session, progress: Progress) -> Session {
+    let rebuilder = s.rebuilder;
+    let holder = s.holder;
+    Session {
+        progress: progress,
+        holder: holder,
+        rebuilder: rebuilder,
+        row_bytes: s.row_bytes,
+    }
+}
+
+fn with_holder(s: Session, holder: Holder) -> Session {
+    let progress = s.progress;
+    let rebuilder = s.rebuilder;
+    Session {
+        progress: progress,
+        holder: holder,
+        rebuilder: rebuilder,
+        row_bytes: s.row_bytes,
+    }
+}
+
+// The question, the first `size` bytes of its buffer, goes to the holder.
+fn ask(
+    st: Holder,
+    x: &[u8],
+    bits: usize,
+    question: &[u8],
+    size: usize,
+    reply: &mut [u8; 8200],
+) -> HolderOut
+    requires { ⌜ length (now question) ≤ 8200 ⌝ }
+{
+    let asked = at_most(size, question.len());
+    print_message(b'Q', &question[0..asked]);
+    ends::holder_call(st, x, bits, &question[0..asked], reply)
+}
+
+// A question of so many bytes goes to the holder, and its answer to the rebuilder.
+fn exchange(
+    s: Session,
+    size: usize,
+    x: &[u8],
+    xbits: usize,
+    y: &[u8],
+    ybits: usize,
+    string: &mut [u8; 8192],
+    question: &mut [u8; 8],
+    text: &mut [u8; 262195],
+) -> Session {
+    let mut reply = [0u8; 8200];
+    let out = ask(s.holder, x, xbits, question, size, &mut reply);
+    let answer = out.answer;
+    let holder = out.state;
+    match answer {
+        HolderAnswer::Refused(e) => with_progress(s, Progress::TurnedDown(e)),
+        HolderAnswer::Replied(length) => {
+            let next = with_holder(s, holder);
+            hear(next, y, ybits, &reply, length, string, question, text)
+        }
+    }
+}
+
+// Questions and answers until X is rebuilt or a call is turned down. No run has 100,000 questions: 01 bounds them by 81,926.
+fn converse(
+    first: Session,
+    x: &[u8],
+    xbits: usize,
+    y: &[u8],
+    ybits: usize,
+    string: &mut [u8; 8192],
+    question: &mut [u8; 8],
+    text: &mut [u8; 262195],
+) -> Session {
+    let mut s = first;
+    let mut left: u32 = 100000;
+    while 0 < left {
+        let progress = s.progress;
+        let Progress::Asking(size) = progress else {
+            return s;
+        };
+        s = exchange(s, size, x, xbits, y, ybits, string, question, text);
+        left -= 1;
+    }
+    s
+}
+
+// The lines after the last answer.
+fn print_end(s: Session, string: &[u8; 8192], text: &[u8; 262195]) {
+    let progress = s.progress;
+    match progress {
+        Progress::Asking(size) => print_refusal(Refusal::OutOfTurn),
+        Progress::TurnedDown(e) => print_refusal(e),
+        Progress::Rebuilt => {
+            print_front(text, s.row_bytes);
+            print_last(string, s.rebuilder);
+        }
+    }
+}
+
+// The run for X and Y with their bit counts.
+fn run(settings: Settings, x: &[u8], xbits: usize, y: &[u8], ybits: usize) {
+    let mut question = [0u8; 8];
+    let start = ends::rebuilder_start(settings, y, ybits, &mut question);
+    let answer = start.answer;
+    let state = start.state;
+    match answer {
+        StartAnswer::NotBegun(e) => print_refusal(e),
+        StartAnswer::Begun(size) => {
+            let mut string = [0u8; 8192];
+            let mut text = [0u8; 262195];
+            let first = Session {
+                progress: Progress::Asking(size),
+                holder: ends::fresh_holder(),
+                rebuilder: state,
+                row_bytes: 0,
+            };
+            let last = converse(
+                first,
+                x,
+                xbits,
+                y,
+                ybits,
+                &mut string,
+                &mut question,
+                &mut text,
+            );
+            print_end(last, &string, &text);
+        }
+    }
+}
 
 // How many bytes a string of at most 65,536 bits has.
 fn byte_count(bits: usize) -> usize
@@ -29,7 +309,7 @@ fn run_lines(settings: Settings, input: &[u8]) {
     };
     let xsize = byte_count(xbits);
     let ysize = byte_count(ybits);
-    session::run(settings, &x[0..xsize], xbits, &y[0..ysize], ybits);
+    run(settings, &x[0..xsize], xbits, &y[0..ysize], ybits);
 }
 
 // A run on the whole input.

@@ -1,11 +1,15 @@
 // Prints samples on standard output, which the gate compares with the stored stdout: outputs of Marsaglia's xorshift, rows and hashes,
-// the syndrome and every repair of each string of up to 8 bits, runs and anchor places at the edges that 01 names, and calls that are
+// the syndrome and every repair of each string of up to 8 bits, messages and anchor places at the edges that 01 names, and calls that are
 // turned down. The stored file is worked out from document 01 by another program (docs/samples.py).
 ghost use Prim.Native.Nat.{_≤_, _<_};
 use anchors::AnchorAnswer;
 use codes::NumberAnswer;
 use codes::RepairAnswer;
+use ends::HolderAnswer;
+use ends::RebuilderAnswer;
 use libc::STDOUT_FILENO;
+use protocol::Holder;
+use protocol::Rebuilder;
 use protocol::Settings;
 use strings::Refusal;
 
@@ -212,28 +216,84 @@ fn print_refusals() {
     print(b"\n");
 }
 
-// Runs with m = h = 8: a piece of 63 bits goes as bits, one of 64 gets anchors at 28, 36 and 20 first; 0000 cannot be repaired to 100.
-fn print_runs() {
-    let settings = Settings::new(8, 8, 1, 1, 100);
+fn print_byte(v: u8) {
+    print_number(v as u64);
+}
+
+// The bytes of a message, the first `size` of its buffer.
+fn print_bytes(buffer: &[u8], size: usize) {
+    let mut i: usize = 0;
+    while i < buffer.len() {
+        if i < size {
+            print_byte(buffer[i]);
+        }
+        i += 1;
+    }
+}
+
+// The rebuilder's next question after a message, and its state.
+fn tell(st: Rebuilder, y: &[u8], bits: usize, message: &[u8]) -> Rebuilder {
+    let mut string = [0u8; 8];
+    let mut question = [0u8; 8];
+    let out = ends::rebuilder_call(st, y, bits, message, 17, &mut string, &mut question);
+    let answer = out.answer;
+    let state = out.state;
+    match answer {
+        RebuilderAnswer::Asks(size) => print_bytes(&question, size),
+        RebuilderAnswer::Finished => print(b" finished"),
+        RebuilderAnswer::Refused(e) => print_refusal(e),
+    }
+    print(b";");
+    state
+}
+
+// The holder's answer to a question about X, and its state.
+fn ask(st: Holder, x: &[u8], bits: usize, message: &[u8]) -> Holder {
+    let mut reply = [0u8; 9];
+    let out = ends::holder_call(st, x, bits, message, &mut reply);
+    let answer = out.answer;
+    let state = out.state;
+    match answer {
+        HolderAnswer::Replied(size) => print_bytes(&reply, size),
+        HolderAnswer::Refused(e) => print_refusal(e),
+    }
+    print(b";");
+    state
+}
+
+// The first state of a rebuilder with m = h = 8.
+fn begin(y: &[u8], bits: usize) -> Rebuilder {
+    let mut question = [0u8; 8];
+    let out = ends::rebuilder_start(Settings::new(8, 8, 1, 1, 100), y, bits, &mut question);
+    out.state
+}
+
+// A piece of 63 bits goes as bits; one of 64 gets anchors at 28, 36 and 20 first: no byte of ones stands in zeros.
+fn print_pieces() {
     let zeros = [0u8; 10];
-    print(b"63 ones, copy of 80 zeros:\n");
-    session::run(
-        settings,
-        b"\xff\xff\xff\xff\xff\xff\xff\xfe",
-        63,
-        &zeros,
-        80,
-    );
-    print(b"64 ones, copy of 80 zeros:\n");
-    session::run(
-        settings,
-        b"\xff\xff\xff\xff\xff\xff\xff\xff",
-        64,
-        &zeros,
-        80,
-    );
-    print(b"100, copy 0000:\n");
-    session::run(settings, b"\x80", 3, b"\x00", 4);
+    let first = begin(&zeros, 80);
+    print(b"questions for 63 bits, copy of 80 zeros:");
+    tell(first, &zeros, 80, b"\x00\x3f");
+    print(b"\nquestions for 64 ones, copy of 80 zeros:");
+    let one = tell(first, &zeros, 80, b"\x00\x40");
+    let two = tell(one, &zeros, 80, b"\x03\xff");
+    let three = tell(two, &zeros, 80, b"\x03\xff");
+    let four = tell(three, &zeros, 80, b"\x03\xff");
+    tell(four, &zeros, 80, b"\x03\xff\xff\xff\xff\xff\xff\xff\xff");
+    print(b"\n");
+}
+
+// 0000 cannot be repaired to 100: the bits are asked for.
+fn print_none() {
+    print(b"answers for 100:");
+    let opened = ask(ends::fresh_holder(), b"\x80", 3, b"\x00\x01\x08\x01");
+    let second = ask(opened, b"\x80", 3, b"\x02\x00\x03");
+    ask(second, b"\x80", 3, b"\x03\x00\x03");
+    print(b"\nquestions for 100, copy 0000:");
+    let one = tell(begin(b"\x00", 4), b"\x00", 4, b"\x00\x03");
+    let two = tell(one, b"\x00", 4, b"\x02\x01\x21");
+    tell(two, b"\x00", 4, b"\x03\x80");
+    print(b"\n");
 }
 
 fn print_place(answer: AnchorAnswer) {
@@ -285,7 +345,8 @@ fn main() {
     print_rows(1, 9);
     print_hashes();
     print_codes();
-    print_runs();
+    print_pieces();
+    print_none();
     print_places();
     print_refusals();
 }

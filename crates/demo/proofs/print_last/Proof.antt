@@ -1,8 +1,8 @@
--- `session::print_last` is safe and ends. Assumes nothing.
-use Rattle.session.proofs.Lines.{last-fits}
+-- `demo::print_last` is safe and ends. Assumes nothing.
+use Rattle.demo.proofs.Lines.{last-fits}
 use borrow.Author.Needs.{needs}
-use Rattle.session.proofs.print_last.Statement.{statement}
-use Rattle.session.proofs.print_last.Tie as tie
+use Rattle.demo.proofs.print_last.Statement.{statement}
+use Rattle.demo.proofs.print_last.Tie as tie
 
 print-refusal-requires : tie.Need-print-refusal-requires
 print-refusal-requires c κs = search needs

@@ -1,8 +1,8 @@
--- `session::print_message` is safe and ends. Assumes nothing.
-use Rattle.session.proofs.Lines.{message-fits}
+-- `demo::print_message` is safe and ends. Assumes nothing.
+use Rattle.demo.proofs.Lines.{message-fits}
 use borrow.Author.Needs.{needs}
-use Rattle.session.proofs.print_message.Statement.{statement}
-use Rattle.session.proofs.print_message.Tie as tie
+use Rattle.demo.proofs.print_message.Statement.{statement}
+use Rattle.demo.proofs.print_message.Tie as tie
 
 slice-aggregate-put-message-line : tie.Need-slice-aggregate-put-message-line
 slice-aggregate-put-message-line c = search needs

@@ -1,8 +1,8 @@
--- `session::print_refusal` is safe and ends. Assumes nothing.
-use Rattle.session.proofs.Lines.{refusal-fits}
+-- `demo::print_refusal` is safe and ends. Assumes nothing.
+use Rattle.demo.proofs.Lines.{refusal-fits}
 use borrow.Author.Needs.{needs}
-use Rattle.session.proofs.print_refusal.Statement.{statement}
-use Rattle.session.proofs.print_refusal.Tie as tie
+use Rattle.demo.proofs.print_refusal.Statement.{statement}
+use Rattle.demo.proofs.print_refusal.Tie as tie
 
 slice-aggregate-put-refusal-line : tie.Need-slice-aggregate-put-refusal-line
 slice-aggregate-put-refusal-line c = search needs

@@ -1,7 +1,7 @@
--- `session::converse` is safe and ends. Assumes nothing.
+-- `demo::converse` is safe and ends. Assumes nothing.
 use borrow.Author.Needs.{needs}
-use Rattle.session.proofs.converse.Statement.{statement}
-use Rattle.session.proofs.converse.Tie as tie
+use Rattle.demo.proofs.converse.Statement.{statement}
+use Rattle.demo.proofs.converse.Tie as tie
 
 abbrev Inv-loop : tie.InvT-loop
 Inv-loop x xbits y ybits string₀ question₀ text₀ s₀ left₀ string question text s left = Unit {0}
