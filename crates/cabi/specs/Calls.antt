@@ -1,9 +1,10 @@
 -- The calls of both ends on bytes: what each gives as one number, and what every lent slice holds after it. A refusal leaves all bytes as they were.
 use mathlib.Core.Bool.{cond}
-use mathlib.Core.List.{List, _++_}
+use mathlib.Core.List.{List}
 use Prim.Native.Nat.{ℕ, _/_}
-use lib.ListN.{length, drop}
+use lib.ListN.{length}
 use lib.Dec.{leb, eqb}
+use Rattle.strings.specs.Bits.{atFront}
 use Rattle.strings.specs.StringRule.{stringRule}
 use Rattle.strings.specs.Refusals.{refusalNumber}
 use Rattle.strings.specs.declared.Refusal.the-variants.{BadSetting, BadString, OutOfTurn, NoRoom}
@@ -15,10 +16,6 @@ use Rattle.protocol.specs.RebuilderCall.{Started, startDeclines, starts, unless
 use Rattle.cabi.specs.Layout.{holderBytes, holderOf, rebuilderBytes, rebuilderOf}
 use Rattle.cabi.specs.Sheet.{sheetBytesAfter}
 use Rattle.cabi.specs.Packing.{packed}
-
--- a message at the front of a buffer, later bytes as they were
-abbrev pub atFront : List ℕ → List ℕ → List ℕ
-atFront m buffer = m ++ drop (length m) buffer
 
 -- ---- a fresh holder: 9 where the state has too few bytes
 pub record HolderMade : Type 0 where

@@ -22,7 +22,8 @@ use Rattle.protocol.specs.Limits.{withinLimits}
 use Rattle.protocol.specs.States.{noPiece, held}
 use Rattle.protocol.specs.Soundness.{sound, openingSound, wholeSound, phaseSound}
 use Rattle.protocol.specs.SoundLaws.{both, Ordered}
-use Rattle.protocol.specs.SoundSteps.{top-most, Framed, sound-is, PiecesIs, pieces-is, WholeIs, whole-is, fresh-sound}
+use Rattle.protocol.specs.SoundParts.{top-most, Framed, sound-is, PiecesIs, pieces-is, WholeIs, whole-is}
+use Rattle.protocol.specs.SoundSteps.{fresh-sound}
 use Rattle.protocol.specs.RebuilderCall.{Started, starts, unlessStarted, rebuilderStart, freshRebuilder, Taken, takes, unlessTaken, Step, Rooms, rebuilderCall}
 use Rattle.protocol.specs.Asking.{call-sound}
 use Rattle.protocol.specs.Delivery.{started-is}

@@ -10,6 +10,7 @@ use borrow.Author.Tests.{le-leb, lt-leb, eq-eqb, ne-eqb}
 use Rattle.strings.specs.Bits.{range}
 use Rattle.strings.specs.PackLaws.{Bytes}
 use Rattle.strings.specs.RangeLaws.{range-length}
+use Rattle.strings.specs.Bits.{atFront}
 use Rattle.strings.specs.StringRule.{stringRule}
 use Rattle.strings.specs.Refusals.{refusalNumber}
 use Rattle.strings.specs.declared.Refusal.{Refusal}
@@ -29,14 +30,14 @@ use Rattle.protocol.specs.Anchors.{part}
 use Rattle.protocol.specs.Runs.{answer}
 use Rattle.protocol.specs.HolderCall.{Heard, declines, replies, unlessHeard, holderCall, freshHolder}
 use Rattle.protocol.specs.HolderLaws.{heard-call, Made, opens, counts, heard-made, holder-sound}
-use Rattle.ends.specs.declared.holder.HolderAnswer.the-variants.{Replied, Refused}
-use Rattle.ends.specs.declared.holder.HolderOut.{HolderOut}
-use Rattle.ends.specs.HolderCode.{HolderSaid, answerSaid, saidHolder, leavesHolder}
+use Rattle.holder.specs.declared.HolderAnswer.the-variants.{Replied, Refused}
+use Rattle.holder.specs.declared.HolderOut.{HolderOut}
+use Rattle.holder.specs.HolderOutcome.{HolderSaid, answerSaid, saidHolder, leavesHolder}
 use Rattle.cabi.specs.Layout.{holderBytes, holderOf}
 use Rattle.cabi.specs.LayoutLaws.{HolderFits, holder-back, length-holder}
 use Rattle.cabi.specs.Bytes32Laws.{number-below}
 use Rattle.cabi.specs.Packing.{packed}
-use Rattle.cabi.specs.Calls.{atFront, holderMade, holderOnBytes, holderLeft}
+use Rattle.cabi.specs.Calls.{holderMade, holderOnBytes, holderLeft}
 
 -- ---- a fresh holder
 pub fresh-short : (s : List ℕ) → length s < 20 → record { result = 9; state = s } ≡ holderMade s

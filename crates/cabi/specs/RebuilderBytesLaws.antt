@@ -7,10 +7,11 @@ use Prim.Native.Nat.{ℕ, _+_, _*_, _≤_, _<_}
 use native.Mathlib.Omega.{arith}
 use lib.ListN.{length, drop, length-append, drop-of-length-le}
 use borrow.Author.Tests.{le-leb, lt-leb, eq-eqb, ne-eqb}
+use Rattle.strings.specs.Bits.{atFront}
 use Rattle.strings.specs.StringRule.{stringRule}
 use Rattle.strings.specs.Refusals.{refusalNumber}
 use Rattle.strings.specs.declared.Refusal.{Refusal}
-use Rattle.codes.specs.Entries.{refusal}
+use Rattle.codes.specs.Entries.{Answer, refusal, value}
 use Rattle.messages.specs.declared.Question.{Question}
 use Rattle.messages.specs.declared.Question.the-variants.{AskOpen, AskHash, AskSyndrome, AskBits}
 use Rattle.messages.specs.Numbers.{number}
@@ -27,18 +28,18 @@ use Rattle.protocol.specs.RebuilderCall.{Started, startDeclines, starts, rebuil
 use Rattle.protocol.specs.Asking.{TakenCall, taken-call}
 use Rattle.protocol.specs.Delivery.{started-is}
 use Rattle.protocol.specs.SheetRoom.{rowsNeeded}
-use Rattle.ends.specs.declared.rebuilder.StartAnswer.the-variants.{Begun, NotBegun}
-use Rattle.ends.specs.declared.rebuilder.StartOut.{StartOut}
-use Rattle.ends.specs.declared.rebuilder.RebuilderAnswer.{RebuilderAnswer}
-use Rattle.ends.specs.declared.rebuilder.RebuilderAnswer.the-variants.{Asks, Finished, Refused}
-use Rattle.ends.specs.declared.rebuilder.RebuilderOut.{RebuilderOut}
-use Rattle.ends.specs.RebuilderCode.{StartSaid, saidStart, leavesStart, RebuilderSaid, saidRebuilder, leavesRebuilder, nextAnswer}
+use Rattle.rebuilder.specs.declared.StartAnswer.the-variants.{Begun, NotBegun}
+use Rattle.rebuilder.specs.declared.StartOut.{StartOut}
+use Rattle.rebuilder.specs.declared.RebuilderAnswer.{RebuilderAnswer}
+use Rattle.rebuilder.specs.declared.RebuilderAnswer.the-variants.{Asks, Finished, Refused}
+use Rattle.rebuilder.specs.declared.RebuilderOut.{RebuilderOut}
+use Rattle.rebuilder.specs.RebuilderOutcome.{startSaid, StartSaid, saidStart, leavesStart, callSaid, RebuilderSaid, saidRebuilder, nextSize, leavesRebuilder}
 use Rattle.ends.specs.SheetCallLaws.{change-fits}
 use Rattle.cabi.specs.Layout.{rebuilderBytes, rebuilderOf}
 use Rattle.cabi.specs.LayoutLaws.{length-rebuilder}
 use Rattle.cabi.specs.Sheet.{sheetBytesAfter}
 use Rattle.cabi.specs.Packing.{packed}
-use Rattle.cabi.specs.Calls.{atFront, startOnBytes, startLeft, rebuilderOnBytes, roomsIn, rebuilderLeft}
+use Rattle.cabi.specs.Calls.{startOnBytes, startLeft, rebuilderOnBytes, roomsIn, rebuilderLeft}
 
 -- ---- a question has at most 16 bytes, whatever its numbers
 question-most : (q : Question) → length (questionBytes q) ≤ 16
@@ -86,40 +87,41 @@ module _ (s y : List ℕ) (bits : ℕ) (msg string sheet question : List ℕ) wh
   rebuilder-called e f = rw (e, eq-eqb (length s) 564 f) refl
 
 -- the length of the question that an answer says
-abbrev askedSize : RebuilderAnswer → ℕ
-askedSize (Asks size) = size
-askedSize Finished = 0
-askedSize (Refused e) = 0
+abbrev saidSize : Answer (Option ℕ) → ℕ
+saidSize (value (some size)) = size
+saidSize (value none) = 0
+saidSize (refusal e) = 0
 
-next-size : (m : List ℕ) → askedSize (nextAnswer m) ≡ length m
+abbrev askedSize : RebuilderAnswer → ℕ
+askedSize a = saidSize (callSaid a)
+
+next-size : (m : List ℕ) → saidSize (value (nextSize m)) ≡ length m
 next-size [] = refl
 next-size (b ∷ m) = refl
-
-next-taken : (m : List ℕ) (e : Refusal) → nextAnswer m ≡ Refused e → ⊥
-next-taken [] e h = let z : _≡_ {A = ℕ} 0 1 = cc in omega arith
-next-taken (b ∷ m) e h = let z : _≡_ {A = ℕ} 0 1 = cc in omega arith
 
 -- what the call on the state says, as bytes
 module _ (s string sheet question string′ question′ : List ℕ) (st : Rebuilder) (out : RebuilderOut) where
   said-declined : (t : Taken) (e : Refusal) → saidRebuilder out string′ question′ ≡ leavesRebuilder st string question t → out .answer ≡ Refused e
       → record { result = packed (refusal (refusalNumber e)); state = s; string = string′; sheet = sheet; question = question′ } ≡ rebuilderLeft s string sheet question t
   said-declined (refuses d) e k f =
-      let a : out .answer ≡ Refused d = ap (λ (w : RebuilderSaid). w .answer) k in
-      let b : e ≡ d = cc in
+      let a : callSaid (out .answer) ≡ refusal (refusalNumber d) = ap (λ (w : RebuilderSaid). w .answer) k in
+      let i : callSaid (out .answer) ≡ refusal (refusalNumber e) = ap callSaid f in
+      let b : refusalNumber e ≡ refusalNumber d = cc in
       let c : string′ ≡ string = ap (λ (w : RebuilderSaid). w .string) k in
       let g : question′ ≡ question = ap (λ (w : RebuilderSaid). w .question) k in
       rw (b, c, g) refl
   said-declined (takes j m) e k f =
-      let a : out .answer ≡ nextAnswer m = ap (λ (w : RebuilderSaid). w .answer) k in
-      absurd (next-taken m e (sym a ∙ f))
+      let a : callSaid (out .answer) ≡ value (nextSize m) = ap (λ (w : RebuilderSaid). w .answer) k in
+      let i : callSaid (out .answer) ≡ refusal (refusalNumber e) = ap callSaid f in
+      let z : _≡_ {A = ℕ} 0 1 = cc in absurd (omega arith)
 
-  said-taken : (t : Taken) (s′ sheet′ : List ℕ) → saidRebuilder out string′ question′ ≡ leavesRebuilder st string question t → ((e : Refusal) → out .answer ≡ Refused e → ⊥)
+  said-taken : (t : Taken) (s′ sheet′ : List ℕ) → saidRebuilder out string′ question′ ≡ leavesRebuilder st string question t → ((v : ℕ) → callSaid (out .answer) ≡ refusal v → ⊥)
       → s′ ≡ rebuilderBytes (out .state) → sheet′ ≡ sheetBytesAfter sheet (out .sheet)
       → record { result = askedSize (out .answer) * 16; state = s′; string = string′; sheet = sheet′; question = question′ } ≡ rebuilderLeft s string sheet question t
   unfolding packed
-  said-taken (refuses d) s′ sheet′ k n g h = absurd (n d (ap (λ (w : RebuilderSaid). w .answer) k))
+  said-taken (refuses d) s′ sheet′ k n g h = absurd (n (refusalNumber d) (ap (λ (w : RebuilderSaid). w .answer) k))
   said-taken (takes j m) s′ sheet′ k n g h =
-      let a : askedSize (out .answer) ≡ length m = ap (λ (w : RebuilderSaid). askedSize (w .answer)) k ∙ next-size m in
+      let a : askedSize (out .answer) ≡ length m = ap (λ (w : RebuilderSaid). saidSize (w .answer)) k ∙ next-size m in
       let b : out .state ≡ j .state = ap (λ (w : RebuilderSaid). w .state) k in
       let c : out .sheet ≡ j .sheet = ap (λ (w : RebuilderSaid). w .sheet) k in
       let d : string′ ≡ stringAfter string (j .string) = ap (λ (w : RebuilderSaid). w .string) k in
@@ -128,8 +130,8 @@ module _ (s string sheet question string′ question′ : List ℕ) (st : Rebuil
 
   said-small : (t : Taken) → saidRebuilder out string′ question′ ≡ leavesRebuilder st string question t
       → ((j : Step) (m : List ℕ) → t ≡ takes j m → length m ≤ 16) → askedSize (out .answer) ≤ 16
-  said-small (refuses d) k h = let c = ap (λ (w : RebuilderSaid). askedSize (w .answer)) k in omega arith
-  said-small (takes j m) k h = let c = ap (λ (w : RebuilderSaid). askedSize (w .answer)) k in let i = h j m refl in let l = next-size m in omega arith
+  said-small (refuses d) k h = let c = ap (λ (w : RebuilderSaid). saidSize (w .answer)) k in omega arith
+  said-small (takes j m) k h = let c = ap (λ (w : RebuilderSaid). saidSize (w .answer)) k in let i = h j m refl in let l = next-size m in omega arith
 
 -- for the code: the answer's three cases; st is the state that was read
 module _ (s y : List ℕ) (bits : ℕ) (msg string sheet question string′ question′ : List ℕ) (st : Rebuilder) (out : RebuilderOut) (g : st ≡ rebuilderOf s)
@@ -156,7 +158,7 @@ module _ (s y : List ℕ) (bits : ℕ) (msg string sheet question string′ ques
     call-declined d r a h =
         rw (called, h) (said-declined s string sheet question string′ question′ st out (rebuilderCall st y bits msg (roomsIn string sheet question)) d k a)
 
-    taken : (s′ sheet′ : List ℕ) (r : ℕ) → r ≡ askedSize (out .answer) * 16 → ((d : Refusal) → out .answer ≡ Refused d → ⊥) → s′ ≡ rebuilderBytes (out .state) ++ drop 564 s → sheet′ ≡ sheetBytesAfter sheet (out .sheet)
+    taken : (s′ sheet′ : List ℕ) (r : ℕ) → r ≡ askedSize (out .answer) * 16 → ((v : ℕ) → callSaid (out .answer) ≡ refusal v → ⊥) → s′ ≡ rebuilderBytes (out .state) ++ drop 564 s → sheet′ ≡ sheetBytesAfter sheet (out .sheet)
         → record { result = r; state = s′; string = string′; sheet = sheet′; question = question′ } ≡ rebuilderLeft s string sheet question (rebuilderOnBytes s y bits msg (roomsIn string sheet question))
     taken s′ sheet′ r a n h i =
         let whole : rebuilderBytes (out .state) ++ drop 564 s ≡ rebuilderBytes (out .state)
@@ -166,12 +168,12 @@ module _ (s y : List ℕ) (bits : ℕ) (msg string sheet question string′ ques
     pub call-asks : (size r : ℕ) (s′ sheet′ : List ℕ) → out .answer ≡ Asks size → r ≡ size * 16 → s′ ≡ rebuilderBytes (out .state) ++ drop 564 s → sheet′ ≡ sheetBytesAfter sheet (out .sheet)
         → record { result = r; state = s′; string = string′; sheet = sheet′; question = question′ } ≡ rebuilderLeft s string sheet question (rebuilderOnBytes s y bits msg (roomsIn string sheet question))
     call-asks size r s′ sheet′ a h i j =
-        taken s′ sheet′ r (h ∙ ap (λ (n : ℕ). n * 16) (sym (ap askedSize a))) (λ d b. let c : Asks size ≡ Refused d = sym a ∙ b in let z : _≡_ {A = ℕ} 0 1 = cc in omega arith) i j
+        taken s′ sheet′ r (h ∙ ap (λ (n : ℕ). n * 16) (sym (ap askedSize a))) (λ v b. let c : value (some size) ≡ refusal v = sym (ap callSaid a) ∙ b in let z : _≡_ {A = ℕ} 0 1 = cc in omega arith) i j
 
     pub call-finished : (r : ℕ) (s′ sheet′ : List ℕ) → out .answer ≡ Finished → r ≡ 0 → s′ ≡ rebuilderBytes (out .state) ++ drop 564 s → sheet′ ≡ sheetBytesAfter sheet (out .sheet)
         → record { result = r; state = s′; string = string′; sheet = sheet′; question = question′ } ≡ rebuilderLeft s string sheet question (rebuilderOnBytes s y bits msg (roomsIn string sheet question))
     call-finished r s′ sheet′ a h i j =
-        taken s′ sheet′ r (h ∙ ap (λ (n : ℕ). n * 16) (sym (ap askedSize a))) (λ d b. let c : Finished ≡ Refused d = sym a ∙ b in let z : _≡_ {A = ℕ} 0 1 = cc in omega arith) i j
+        taken s′ sheet′ r (h ∙ ap (λ (n : ℕ). n * 16) (sym (ap askedSize a))) (λ v b. let c : value none ≡ refusal v = sym (ap callSaid a) ∙ b in let z : _≡_ {A = ℕ} 0 1 = cc in omega arith) i j
 
 -- ---- the returns of the start
 module _ (S : Settings) (y : List ℕ) (bits : ℕ) (s question : List ℕ) where
@@ -199,12 +201,14 @@ module _ (s question question′ : List ℕ) (out : StartOut) where
   start-declines : (t : Started) (e : Refusal) → saidStart out question′ ≡ leavesStart question t → out .answer ≡ NotBegun e
       → record { result = packed (refusal (refusalNumber e)); state = s; question = question′ } ≡ startLeft s question t
   start-declines (startDeclines d) e k f =
-      let a : out .answer ≡ NotBegun d = ap (λ (w : StartSaid). w .answer) k in
-      let b : e ≡ d = cc in
+      let a : startSaid (out .answer) ≡ refusal (refusalNumber d) = ap (λ (w : StartSaid). w .answer) k in
+      let i : startSaid (out .answer) ≡ refusal (refusalNumber e) = ap startSaid f in
+      let b : refusalNumber e ≡ refusalNumber d = cc in
       let g : question′ ≡ question = ap (λ (w : StartSaid). w .question) k in
       rw (b, g) refl
   start-declines (starts st m) e k f =
-      let a : out .answer ≡ Begun (length m) = ap (λ (w : StartSaid). w .answer) k in
+      let a : startSaid (out .answer) ≡ value (length m) = ap (λ (w : StartSaid). w .answer) k in
+      let i : startSaid (out .answer) ≡ refusal (refusalNumber e) = ap startSaid f in
       let z : _≡_ {A = ℕ} 0 1 = cc in absurd (omega arith)
 
   start-begins : (t : Started) (size : ℕ) (s′ : List ℕ) → saidStart out question′ ≡ leavesStart question t → out .answer ≡ Begun size
@@ -212,10 +216,12 @@ module _ (s question question′ : List ℕ) (out : StartOut) where
       → record { result = size * 16; state = s′; question = question′ } ≡ startLeft s question t
   unfolding packed
   start-begins (startDeclines d) size s′ k f g =
-      let a : out .answer ≡ NotBegun d = ap (λ (w : StartSaid). w .answer) k in
+      let a : startSaid (out .answer) ≡ refusal (refusalNumber d) = ap (λ (w : StartSaid). w .answer) k in
+      let i : startSaid (out .answer) ≡ value size = ap startSaid f in
       let z : _≡_ {A = ℕ} 0 1 = cc in absurd (omega arith)
   start-begins (starts st m) size s′ k f g =
-      let a : out .answer ≡ Begun (length m) = ap (λ (w : StartSaid). w .answer) k in
+      let a : startSaid (out .answer) ≡ value (length m) = ap (λ (w : StartSaid). w .answer) k in
+      let j : startSaid (out .answer) ≡ value size = ap startSaid f in
       let b : size ≡ length m = cc in
       let c : out .state ≡ st = ap (λ (w : StartSaid). w .state) k in
       let d : question′ ≡ atFront m question = ap (λ (w : StartSaid). w .question) k in
@@ -226,10 +232,12 @@ module _ (s question question′ : List ℕ) (out : StartOut) where
   start-size : (t : Started) (size : ℕ) → saidStart out question′ ≡ leavesStart question t → out .answer ≡ Begun size
       → ((st : Rebuilder) (m : List ℕ) → t ≡ starts st m → length m ≤ 16) → size ≤ 16
   start-size (startDeclines d) size k f h =
-      let a : out .answer ≡ NotBegun d = ap (λ (w : StartSaid). w .answer) k in
+      let a : startSaid (out .answer) ≡ refusal (refusalNumber d) = ap (λ (w : StartSaid). w .answer) k in
+      let i : startSaid (out .answer) ≡ value size = ap startSaid f in
       let z : _≡_ {A = ℕ} 0 1 = cc in absurd (omega arith)
   start-size (starts st m) size k f h =
-      let a : out .answer ≡ Begun (length m) = ap (λ (w : StartSaid). w .answer) k in
+      let a : startSaid (out .answer) ≡ value (length m) = ap (λ (w : StartSaid). w .answer) k in
+      let j : startSaid (out .answer) ≡ value size = ap startSaid f in
       let b : size ≡ length m = cc in
       let i = h st m refl in omega arith
 

@@ -1,12 +1,12 @@
 -- Repairs as edits of a range: what the code finds (EditLaws has that this is put-in and take-out), and what an edit gives.
 use mathlib.Core.Path.{_≡_}
 use mathlib.Core.Bool.{Bool, cond}
-use mathlib.Core.List.{List, _++_}
+use mathlib.Core.List.{List}
 use mathlib.Core.Option.{Option, none, some}
 use Prim.Native.Nat.{ℕ, _+_, _≤_, _<_}
-use lib.ListN.{length, drop}
+use lib.ListN.{length}
 use lib.Dec.{eqb, leb, ltb}
-use Rattle.strings.specs.Bits.{pack, Part}
+use Rattle.strings.specs.Bits.{pack, atFront, Part}
 use Rattle.codes.specs.Repair.{without, insertAt}
 use Rattle.codes.specs.Place.{putPlace, putBit, takePlace}
 use Rattle.codes.specs.declared.edits.Edit.{Edit}
@@ -33,7 +33,7 @@ pub record Editable (s : List ℕ) (start len : ℕ) (e : Edit) (n : ℕ) : Type
 
 -- a buffer that begins with the bits l packed as a string; its later bytes are as they were
 abbrev pub packedInto : List Bool → List ℕ → List ℕ
-packedInto l buffer = pack l ++ drop (length (pack l)) buffer
+packedInto l buffer = atFront (pack l) buffer
 
 -- the edit that puts a bit into l so that the syndrome is a; there is none for an a above the new length
 unfoldable pub putEdit : ℕ → List Bool → Edit

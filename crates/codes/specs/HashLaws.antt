@@ -6,12 +6,10 @@ use Prim.Native.Nat.{ℕ, zero, suc, _+_, _*_, _/_, _%_, _^_, _<_, _≤_}
 use native.Mathlib.Nat.{mod-lt, mod-eq-of-lt, one-mul, zero-mod, add-zero, add-suc}
 use native.Mathlib.Omega.{arith}
 use lib.Arith.{bin-ind}
-use lib.ListN.{length, take, drop, length-append}
-use lib.Seq.{length-take-le}
+use lib.ListN.{length, length-append}
 use lib.Pow.{pow-lt, pow-pos, shr-le}
 use lib.Bits.{bitXor, differ, xor-shr, xor-step, xor-zero-l, xor-zero-r, xor-lt, xor-mod}
 use Rattle.strings.specs.BitLaws.{xor-odd}
-use Rattle.codes.specs.Repair.{without, insertAt}
 use Rattle.codes.specs.Hash.{xorLeft, xorRight, step, row, hashFrom, hash}
 use Rattle.codes.specs.HashForms.{hashRows, wholeHash, Went}
 
@@ -56,15 +54,6 @@ unfolding row
 row-below v zero h = h
 row-below v (suc i) h = step-below (row v i) (row-below v i h)
 
--- the row before the first bit, and the next
-pub row-zero : (v : ℕ) → row v 0 ≡ v
-unfolding row
-row-zero v = refl
-
-pub row-suc : (v i : ℕ) → row v (suc i) ≡ step (row v i)
-unfolding row
-row-suc v i = refl
-
 -- one step before, one row later
 pub row-shift : (v i : ℕ) → row (step v) i ≡ row v (suc i)
 unfolding row
@@ -82,13 +71,6 @@ pub hash-empty : (h v : ℕ) → hashFrom h v [] ≡ 0
 unfolding hashFrom
 hash-empty h v = refl
 
-pub hash-cons : (h v : ℕ) (b : Bool) (l : List Bool) → hashFrom h v (b ∷ l) ≡ bitXor (cond b (step v % 2 ^ h) 0) (hashFrom h (step v) l)
-unfolding hashFrom
-hash-cons h v b l = refl
-
-pub hash-equal : (h key : ℕ) (l m : List Bool) → l ≡ m → hash h key l ≡ hash h key m
-hash-equal h key l m e = ap (hash h key) e
-
 cut-below : (h : ℕ) (b : Bool) (v : ℕ) → cond b (v % 2 ^ h) 0 < 2 ^ h
 cut-below h true v = mod-lt v (pow-pos h)
 cut-below h false v = pow-pos h
@@ -101,29 +83,6 @@ hash-from-below h v (b ∷ l) = xor-lt h (cond b (step v % 2 ^ h) 0) (hashFrom h
 pub hash-below : (h key : ℕ) (l : List Bool) → hash h key l < 2 ^ h
 unfolding hash
 hash-below h key l = hash-from-below h key l
-
--- over ++: the second part goes on with the rows behind the first
-pub hash-append : (h v : ℕ) (l m : List Bool) → hashFrom h v (l ++ m) ≡ bitXor (hashFrom h v l) (hashFrom h (row v (length l)) m)
-unfolding hashFrom row
-hash-append h v [] m = sym (xor-zero-l (hashFrom h v m))
-hash-append h v (b ∷ l) m =
-    ap (bitXor (cond b (step v % 2 ^ h) 0)) (hash-append h (step v) l m ∙ ap (λ (x : ℕ). bitXor (hashFrom h (step v) l) (hashFrom h x m)) (row-shift v (length l)))
-    ∙ sym (xor-assoc (cond b (step v % 2 ^ h) 0) (hashFrom h (step v) l) (hashFrom h (row v (suc (length l))) m))
-
--- with one bit put in, and with one taken out
-pub hash-insert : (h v p : ℕ) (b : Bool) (l : List Bool) → p ≤ length l
-    → hashFrom h v (insertAt p b l) ≡ bitXor (hashFrom h v (take p l)) (bitXor (cond b (row v (suc p) % 2 ^ h) 0) (hashFrom h (row v (suc p)) (drop p l)))
-unfolding row
-hash-insert h v p b l e =
-    hash-append h v (take p l) (b ∷ drop p l)
-    ∙ ap (λ (n : ℕ). bitXor (hashFrom h v (take p l)) (hashFrom h (row v n) (b ∷ drop p l))) (length-take-le p l e)
-    ∙ ap (bitXor (hashFrom h v (take p l))) (hash-cons h (row v p) b (drop p l))
-
-pub hash-without : (h v i : ℕ) (l : List Bool) → i < length l
-    → hashFrom h v (without i l) ≡ bitXor (hashFrom h v (take i l)) (hashFrom h (row v i) (drop (suc i) l))
-hash-without h v i l e =
-    hash-append h v (take i l) (drop (suc i) l)
-    ∙ ap (λ (n : ℕ). bitXor (hashFrom h v (take i l)) (hashFrom h (row v n) (drop (suc i) l))) (length-take-le i l (omega arith))
 
 -- ---- 01's words: "the xor of the low h bits of row i over its set bits, i counted from the piece's start", i from 1
 hash-rows-from : (h key i : ℕ) (l : List Bool) → hashFrom h (row key i) l ≡ hashRows h key (suc i) l

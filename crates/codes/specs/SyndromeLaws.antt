@@ -111,10 +111,6 @@ pub syndrome-most : (l : List Bool) → syndrome l ≤ length l
 unfolding syndrome
 syndrome-most l = let h : weightedSum 1 l % (length l + 1) < length l + 1 = mod-lt (weightedSum 1 l) (omega arith) in omega arith
 
-pub syndrome-append : (l m : List Bool) → syndrome (l ++ m) ≡ (weightedSum 1 l + weightedSum (1 + length l) m) % (length l + length m + 1)
-unfolding syndrome
-syndrome-append l m = ap₂ (λ (x n : ℕ). x % (n + 1)) (weighted-sum-append 1 l m) (length-append l m)
-
 -- from the numbers that a function holds: the length and the sum
 pub syndrome-is : (l : List Bool) (n x : ℕ) → length l ≡ n → x ≡ weightedSum 1 l → x % (n + 1) ≡ syndrome l
 unfolding syndrome

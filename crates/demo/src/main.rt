@@ -218,7 +218,7 @@ fn exchange(
     }
 }
 
-// Questions and answers until X is rebuilt or a call is turned down. No run has 100,000 questions: 01 bounds them by 81,926.
+// Questions and answers until X is rebuilt or a call is turned down. No run has 100,000 questions: demand 3 bounds them by 81,926.
 fn converse(
     first: Session,
     x: &[u8],

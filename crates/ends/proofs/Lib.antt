@@ -1,4 +1,3 @@
 -- What the proofs share.
-pub mod Arrays
 pub mod Lending
 pub mod LentRows

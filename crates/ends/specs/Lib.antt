@@ -1,8 +1,3 @@
--- What the functions of the two ends require, and laws for their proofs.
-pub mod HolderCode
-pub mod HolderCodeLaws
-pub mod RebuilderCode
-pub mod RebuilderCodeLaws
-pub mod RebuilderCallLaws
+-- What the rebuilder's call over a lent sheet of rows gives and leaves, and laws for its proof.
 pub mod SheetCall
 pub mod SheetCallLaws

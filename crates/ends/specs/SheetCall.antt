@@ -4,8 +4,8 @@ use Prim.Native.Nat.{ℕ}
 use Rattle.protocol.specs.declared.Rebuilder.{Rebuilder}
 use Rattle.protocol.specs.declared.Row.{Row}
 use Rattle.protocol.specs.RebuilderCall.{Taken, refuses, takes, sheetAfter}
-use Rattle.ends.specs.declared.rebuilder.RebuilderOut.{RebuilderOut}
-use Rattle.ends.specs.RebuilderCode.{RebuilderSaid, saidRebuilder, leavesRebuilder}
+use Rattle.rebuilder.specs.declared.RebuilderOut.{RebuilderOut}
+use Rattle.rebuilder.specs.RebuilderOutcome.{RebuilderSaid, saidRebuilder, leavesRebuilder}
 
 -- what the call gives and leaves in string and question buffer, and the rows of the sheet
 pub record SheetSaid : Type 0 where

@@ -14,8 +14,8 @@ use Rattle.protocol.specs.declared.SheetChange.the-variants.{NoRow, AddRow, One
 use Rattle.protocol.specs.RebuilderCall.{Rooms, Step, Taken, noRow, rebuilderCall, refuses, sheetAfter, takes}
 use Rattle.protocol.specs.SheetRoom.{rowsNeeded, taken-rows}
 use Rattle.protocol.specs.Worlds.{afterTaken, world}
-use Rattle.ends.specs.declared.rebuilder.RebuilderOut.{RebuilderOut}
-use Rattle.ends.specs.RebuilderCode.{RebuilderSaid, saidRebuilder, leavesRebuilder}
+use Rattle.rebuilder.specs.declared.RebuilderOut.{RebuilderOut}
+use Rattle.rebuilder.specs.RebuilderOutcome.{RebuilderSaid, saidRebuilder, leavesRebuilder}
 use Rattle.ends.specs.SheetCall.{saidOnSheet, sheetLeft, leavesOnSheet}
 
 -- ---- the call

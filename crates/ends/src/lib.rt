@@ -1,6 +1,5 @@
-// The two ends: the highest of the four layers.
-mod holder;
-mod rebuilder;
+// The two ends: the highest of the four layers. The holder's and the rebuilder's calls are in crates of their own, because either runs
+// without the other; here they stand together, with the rebuilder's call over a lent sheet of rows.
 mod sheet;
 
 pub use holder::HolderAnswer;

@@ -7,12 +7,12 @@ ghost use lib.ListN.{length, replicate};
 ghost use lib.Seq.{sets};
 ghost use Rattle.protocol.specs.RebuilderCall.{noRow, rebuilderCall, sheetAfter};
 ghost use Rattle.protocol.specs.SheetRoom.{rowsNeeded};
-ghost use Rattle.ends.specs.RebuilderCode.{rooms};
+ghost use Rattle.rebuilder.specs.RebuilderOutcome.{rooms};
 ghost use Rattle.ends.specs.SheetCall.{saidOnSheet, leavesOnSheet};
-use crate::rebuilder::RebuilderOut;
 use protocol::Rebuilder;
 use protocol::Row;
 use protocol::SheetChange;
+use rebuilder::RebuilderOut;
 
 // A row of zeros.
 fn no_row() -> Row
@@ -75,7 +75,7 @@ pub fn rebuilder_call_on_sheet(
 ) -> RebuilderOut
     ensures { λ r. ⌜ saidOnSheet r (now (sheet .exit)) (now (string .exit)) (now (question .exit)) ≡ leavesOnSheet st (now (sheet .entry)) (now (string .entry)) (now (question .entry)) (rebuilderCall st (now (y .entry)) bits (now (msg .entry)) (rooms (length (now (string .entry))) (length (now (sheet .entry))) (length (now (question .entry))))) ⌝ }
 {
-    let out = crate::rebuilder::rebuilder_call(st, y, bits, msg, sheet.len(), string, question);
+    let out = rebuilder::rebuilder_call(st, y, bits, msg, sheet.len(), string, question);
     let change = out.sheet;
     apply_change(sheet, change);
     out

@@ -1,9 +1,10 @@
 -- What a writer of a message leaves in a lent buffer.
 use mathlib.Core.Bool.{cond}
-use mathlib.Core.List.{List, _++_}
+use mathlib.Core.List.{List}
 use Prim.Native.Nat.{ℕ}
-use lib.ListN.{length, drop}
+use lib.ListN.{length}
 use lib.Dec.{ltb}
+use Rattle.strings.specs.Bits.{atFront}
 use Rattle.messages.specs.declared.WriteResult.{WriteResult}
 use Rattle.messages.specs.declared.WriteResult.the-variants.{Written, TooShort}
 
@@ -13,4 +14,4 @@ pub data Outcome : Type 0 where
 
 -- the message m at the front of the buffer, later bytes as they were; too short a buffer keeps all its bytes
 unfoldable pub putFront : List ℕ → List ℕ → Outcome
-putFront m buf = cond (ltb (length buf) (length m)) (leaves TooShort buf) (leaves (Written (length m)) (m ++ drop (length m) buf))
+putFront m buf = cond (ltb (length buf) (length m)) (leaves TooShort buf) (leaves (Written (length m)) (atFront m buf))

@@ -3,6 +3,7 @@
 ghost use mathlib.Core.Path.{_≡_};
 ghost use Rattle.messages.specs.Numbers.{numberAt};
 use crate::NumberRead;
+use crate::numbers::read_number;
 
 // A reader: `src` is the message, `at` is how far it has got, as the index of the first byte that is not read yet.
 pub struct Reader<'a> {
@@ -21,5 +22,13 @@ pub fn reader_at<'a>(src: &'a [u8], at: usize) -> Reader<'a>
 pub fn read_next<'a>(r: Reader<'a>) -> NumberRead
     ensures { λ n. ⌜ n ≡ numberAt (now (r .entry .src)) (r .entry .at) ⌝ }
 {
-    crate::read_number(r.src, r.at)
+    read_number(r.src, r.at)
+}
+
+// The next number of a message from position `at` on, read through a reader. Questions and answers read every number through this
+// function; its parameters are plain, so the functions above it need no proof by hand.
+pub fn next_number(s: &[u8], at: usize) -> NumberRead
+    ensures { λ r. ⌜ r ≡ numberAt (now (s .entry)) at ⌝ }
+{
+    read_next(reader_at(s, at))
 }

@@ -21,7 +21,7 @@ use Rattle.protocol.specs.Runs.{Run, advance, judge, opening, question, 
 use Rattle.protocol.specs.Segments.{Effect, Segment, Stage, anchors, ask, asks, dropped, effect, hashing, newRows, puttingIn, settled, settles, splits, stays, step, takingOut, theBits, theSize, waiting, waits}
 use Rattle.protocol.specs.Shape.{Inside}
 use Rattle.protocol.specs.SoundLaws.{limits-is}
-use Rattle.protocol.specs.SoundSteps.{PhaseOf, isOpening, isPieces, isWhole, phase-of, sound-is, top-is}
+use Rattle.protocol.specs.SoundParts.{PhaseOf, isOpening, isPieces, isWhole, phase-of, sound-is, top-is}
 use Rattle.protocol.specs.Soundness.{sound}
 use Rattle.protocol.specs.States.{planned, popped, restaged, retried, splitAt, top}
 use Rattle.protocol.specs.Steps.{step-opening, step-pieces, step-whole}

@@ -15,10 +15,10 @@ use borrow.Author.Tests.{le-leb, lt-leb, lt-ltb, le-ltb}
 use Rattle.messages.specs.Answers.{Answer}
 use Rattle.protocol.specs.Anchors.{part}
 use Rattle.protocol.specs.Counts.{isWait, pot, rowCost}
-use Rattle.protocol.specs.Invariant.{Held, Inv, Truth, run-ok}
+use Rattle.protocol.specs.Invariant.{Held, Inv, Truth}
 use Rattle.protocol.specs.Limits.{Limits}
 use Rattle.protocol.specs.Right.{Good, Settled}
-use Rattle.protocol.specs.Runs.{Honest, Run, advance, blank, copies, countOf, judge, opening, piecesOf, question, run, sheetOf, sizeOf, string, whole, working}
+use Rattle.protocol.specs.Runs.{Run, advance, blank, copies, countOf, judge, opening, piecesOf, question, run, sheetOf, sizeOf, string, whole, working}
 use Rattle.protocol.specs.SegmentLaws.{Chain, rowSum, total}
 use Rattle.protocol.specs.Segments.{Segment, ask, dropped, newRows, row, rowsOf, settled, span, step, waiting, waits}
 use Rattle.protocol.specs.Shape.{full}
@@ -281,6 +281,3 @@ module _ (S : Settings) (X Y : List Bool) (L : Limits S) (nX : length X ≤ 6553
         settled = held-settled n segs (t .1);
         finish = λ e. let z : _≡_ {A = ℕ} 0 1 = cc in absurd (omega arith);
       }
-
-  pub demand : (l : List Answer) → Honest S X Y l → Kept S X Y (length l) (run S Y l) × (countOf (run S Y l) ≡ bytesOf l)
-  demand l h = let r = run-ok S X Y L nX l h in (kept (length l) (run S Y l) (r .0) (r .1), count-is S Y l)

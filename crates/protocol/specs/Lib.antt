@@ -20,6 +20,7 @@ pub mod StackLaws
 pub mod Standing
 pub mod Steps
 pub mod SoundLaws
+pub mod SoundParts
 pub mod SoundSteps
 pub mod Moves
 pub mod Asking

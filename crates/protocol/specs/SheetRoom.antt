@@ -13,7 +13,7 @@ use Rattle.messages.specs.Answers.{Answer}
 use Rattle.protocol.specs.Asking.{TakenCall, taken-call}
 use Rattle.protocol.specs.RebuilderCall.{Rooms, Step, bitsKnown, effectStep, numberedStage, openingStep, rebuilderCall, roomFor, stepOf, takes, wholeStep}
 use Rattle.protocol.specs.Segments.{Effect, effect, settles, splits, stays}
-use Rattle.protocol.specs.SoundSteps.{PhaseOf, isOpening, isPieces, isWhole, phase-of, sound-is}
+use Rattle.protocol.specs.SoundParts.{PhaseOf, isOpening, isPieces, isWhole, phase-of, sound-is}
 use Rattle.protocol.specs.Soundness.{rowsLeft}
 use Rattle.protocol.specs.States.{held, top}
 use Rattle.protocol.specs.Steps.{step-opening, step-pieces, step-whole}

@@ -1,7 +1,7 @@
 -- A state that passes the soundness test meets what the functions of src/state.rt require.
 use mathlib.Core.Path.{_≡_}
 use mathlib.Core.Bool.{Bool, true, false, cond, _&&_}
-use Prim.Native.Nat.{ℕ, _/_, max, _≤_, _<_}
+use Prim.Native.Nat.{ℕ, max, _≤_, _<_}
 use native.Mathlib.Nat.{div-le-self, max-le}
 use native.Mathlib.Omega.{arith}
 use lib.Dec.{eqb}
@@ -10,7 +10,7 @@ use Rattle.protocol.specs.declared.Rebuilder.{Rebuilder}
 use Rattle.protocol.specs.Shape.{full}
 use Rattle.protocol.specs.States.{top}
 use Rattle.protocol.specs.Soundness.{openingSound, piecesSound, wholeSound, phaseSound, mostCounted, sound}
-use Rattle.protocol.specs.SoundSteps.{Framed, sound-is, OpeningIs, opening-is, PiecesIs, pieces-is, phase-pieces, WholeIs, whole-is, top-is, top-most, stage-big}
+use Rattle.protocol.specs.SoundParts.{Framed, sound-is, OpeningIs, opening-is, PiecesIs, pieces-is, phase-pieces, WholeIs, whole-is, top-is, top-most, stage-big}
 use Rattle.states.specs.StateCode.{Counts, Asks, Plans}
 
 -- ---- the counts

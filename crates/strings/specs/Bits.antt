@@ -1,9 +1,9 @@
 -- Bits packed in bytes, first bit in the most significant place; bits in the mathematics are lists of Bool.
 use mathlib.Core.Path.{_≡_}
 use mathlib.Core.Bool.{Bool, true, false, not, cond}
-use mathlib.Core.List.{List, [], _∷_}
+use mathlib.Core.List.{List, [], _∷_, _++_}
 use Prim.Native.Nat.{ℕ, zero, suc, _+_, _-_, _*_, _/_, _%_, _^_, _≤_, _<_}
-use lib.ListN.{length, getD, set, replicate}
+use lib.ListN.{length, getD, set, replicate, drop}
 use lib.Seq.{sets}
 use lib.Dec.{eqb}
 use lib.Bits.{bitXor}
@@ -59,6 +59,10 @@ pack l = writeBits (zeroBytes (bytesFor (length l))) 0 l
 -- s with the bytes at to at + count - 1 set to 0
 unfoldable pub cleared : List ℕ → ℕ → ℕ → List ℕ
 cleared s at count = sets s at (zeroBytes count)
+
+-- a lent buffer with the bytes m at its front; later bytes are as they were
+abbrev pub atFront : List ℕ → List ℕ → List ℕ
+atFront m buffer = m ++ drop (length m) buffer
 
 -- whether two lists of bits are equal
 unfoldable pub sameBits : List Bool → List Bool → Bool

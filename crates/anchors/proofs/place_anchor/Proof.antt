@@ -1,7 +1,7 @@
 -- `anchors::place_anchor` meets its contract. Outer invariant: what was found among the places below `next`, and that `end` bounds the places that are nearer; inner: the first j bits of the anchor stand at r.
 -- Assumes nothing.
 use mathlib.Core.Path.{_≡_}
-use Prim.Native.Nat.{ℕ, _+_, _-_, _*_, _≤_, _<_}
+use Prim.Native.Nat.{_+_, _-_, _*_, _≤_, _<_}
 use native.Mathlib.Omega.{arith}
 use borrow.Author.Needs.{needs}
 use Rattle.anchors.specs.AnchorSearch.{windowEnd}

@@ -39,7 +39,7 @@ keep-requires : tie.Need-keep-requires
 keep-requires c κs =
     let call = c .before .before .before .before .before .before .before .before .before in
     let a = call .before .before .before .before .before .before .before .before .before .before .before .before .before .before .args in
-    (search needs, (call-rows (a .state .now) (a .y .now) (a .bits) (a .msg .now) (a .string .now) (a .sheet .now) (a .question .now) _ _ _ _ (call .before .before .before .read-rebuilder .ensures) (call .rebuilder-call .ensures), search needs))
+    (search needs, (call-rows (a .state .now) (a .y .now) (a .bits) (a .msg .now) (a .string .now) (a .sheet .now) (a .question .now) _ _ _ (call .rebuilder-call .result) (call .before .before .before .read-rebuilder .ensures) (call .rebuilder-call .ensures), search needs))
 
 enum-known-answer-2 : tie.Need-enum-known-answer-2
 enum-known-answer-2 c = search needs
@@ -48,7 +48,7 @@ keep-requires-2 : tie.Need-keep-requires-2
 keep-requires-2 c κs =
     let call = c .before .before .before .before .before .before .before .before .before .before in
     let a = call .before .before .before .before .before .before .before .before .before .before .before .before .before .before .args in
-    (search needs, (call-rows (a .state .now) (a .y .now) (a .bits) (a .msg .now) (a .string .now) (a .sheet .now) (a .question .now) _ _ _ _ (call .before .before .before .read-rebuilder .ensures) (call .rebuilder-call .ensures), call-small (a .state .now) (a .y .now) (a .bits) (a .msg .now) (a .string .now) (a .sheet .now) (a .question .now) _ _ _ _ (call .before .before .before .read-rebuilder .ensures) (call .rebuilder-call .ensures) _ (c .before .before .before .answer2 .given .1)))
+    (search needs, (call-rows (a .state .now) (a .y .now) (a .bits) (a .msg .now) (a .string .now) (a .sheet .now) (a .question .now) _ _ _ (call .rebuilder-call .result) (call .before .before .before .read-rebuilder .ensures) (call .rebuilder-call .ensures), call-small (a .state .now) (a .y .now) (a .bits) (a .msg .now) (a .string .now) (a .sheet .now) (a .question .now) _ _ _ (call .rebuilder-call .result) (call .before .before .before .read-rebuilder .ensures) (call .rebuilder-call .ensures) _ (c .before .before .before .answer2 .given .1)))
 
 same-length : tie.Need-same-length
 same-length c = search needs
@@ -63,7 +63,7 @@ returns-3 : tie.Need-returns-3
 returns-3 c =
     let call = c .before .before .before .before .before .before .before .before .before in
     let a = call .before .before .before .before .before .before .before .before .before .before .before .before .before .before .args in
-    call-declined (a .state .now) (a .y .now) (a .bits) (a .msg .now) (a .string .now) (a .sheet .now) (a .question .now) _ _ _ _ (call .before .before .before .read-rebuilder .ensures) (call .rebuilder-call .ensures) (string-kept (call .before .before .before .before .before .before)) (call .before .before .before .before .before .if2 .left) _ _ (c .before .before .answer .given .1) (c .pack-refusal .ensures)
+    call-declined (a .state .now) (a .y .now) (a .bits) (a .msg .now) (a .string .now) (a .sheet .now) (a .question .now) _ _ _ (call .rebuilder-call .result) (call .before .before .before .read-rebuilder .ensures) (call .rebuilder-call .ensures) (string-kept (call .before .before .before .before .before .before)) (call .before .before .before .before .before .if2 .left) _ _ (c .before .before .answer .given .1) (c .pack-refusal .ensures)
 
 same-length-4 : tie.Need-same-length-4
 same-length-4 c = search needs
@@ -82,7 +82,7 @@ returns-4 c =
     let call = c .before .before .before .before .before .before .before .before .before .before .before .before .before .before in
     let a = call .before .before .before .before .before .before .before .before .before .before .before .before .before .before .args in
     let keep = c .before .before .before .before .keep in
-    call-finished (a .state .now) (a .y .now) (a .bits) (a .msg .now) (a .string .now) (a .sheet .now) (a .question .now) _ _ _ _ (call .before .before .before .read-rebuilder .ensures) (call .rebuilder-call .ensures) (string-kept (call .before .before .before .before .before .before)) (call .before .before .before .before .before .if2 .left) _ _ _ (c .before .before .before .before .before .before .before .enum-told .given .1) (keep .ensures .0) (keep .ensures .1 .0) (keep .ensures .1 .1)
+    call-finished (a .state .now) (a .y .now) (a .bits) (a .msg .now) (a .string .now) (a .sheet .now) (a .question .now) _ _ _ (call .rebuilder-call .result) (call .before .before .before .read-rebuilder .ensures) (call .rebuilder-call .ensures) (string-kept (call .before .before .before .before .before .before)) (call .before .before .before .before .before .if2 .left) _ _ _ (c .before .before .before .before .before .before .before .enum-told .given .1) (keep .ensures .0) (keep .ensures .1 .0) (keep .ensures .1 .1)
 
 same-length-8 : tie.Need-same-length-8
 same-length-8 c = search needs
@@ -101,7 +101,7 @@ returns-5 c =
     let call = c .before .before .before .before .before .before .before .before .before .before .before .before .before .before .before in
     let a = call .before .before .before .before .before .before .before .before .before .before .before .before .before .before .args in
     let keep2 = c .before .before .before .before .keep2 in
-    call-asks (a .state .now) (a .y .now) (a .bits) (a .msg .now) (a .string .now) (a .sheet .now) (a .question .now) _ _ _ _ (call .before .before .before .read-rebuilder .ensures) (call .rebuilder-call .ensures) (string-kept (call .before .before .before .before .before .before)) (call .before .before .before .before .before .if2 .left) _ _ _ _ (c .before .before .before .before .before .before .before .before .answer2 .given .1) (keep2 .ensures .0) (keep2 .ensures .1 .0) (keep2 .ensures .1 .1)
+    call-asks (a .state .now) (a .y .now) (a .bits) (a .msg .now) (a .string .now) (a .sheet .now) (a .question .now) _ _ _ (call .rebuilder-call .result) (call .before .before .before .read-rebuilder .ensures) (call .rebuilder-call .ensures) (string-kept (call .before .before .before .before .before .before)) (call .before .before .before .before .before .if2 .left) _ _ _ _ (c .before .before .before .before .before .before .before .before .answer2 .given .1) (keep2 .ensures .0) (keep2 .ensures .1 .0) (keep2 .ensures .1 .1)
 
 pub lo-rebuilder-call-spec : {M : Type 1} → statement M
 lo-rebuilder-call-spec =

@@ -46,10 +46,10 @@ use Rattle.messages.proofs.reading.Reader as T
 use Rattle.messages.proofs.reading.Reader.Laws as T′
 use Rattle.messages.proofs.NumberRead as S
 use Rattle.messages.proofs.NumberRead.Laws as S′
-use Rattle.messages.proofs.read_number as read-number
-use Rattle.messages.proofs.read_number.Symbol as read-number-def
-use Rattle.messages.proofs.read_number.Symbol.{name as #messages·read-number}
-use Rattle.messages.proofs.read_number.Met as read-number-thm
+use Rattle.messages.proofs.numbers.read_number as read-number
+use Rattle.messages.proofs.numbers.read_number.Symbol as read-number-def
+use Rattle.messages.proofs.numbers.read_number.Symbol.{name as #messages·read-number}
+use Rattle.messages.proofs.numbers.read_number.Met as read-number-thm
 use Rattle.messages.proofs.reading.read_next.Key.{name as #messages·reading·read-next}
 use Rattle.messages.proofs.reading.read_next as read-next
 use Rattle.messages.proofs.reading.read_next.Statement as stated
@@ -151,4 +151,4 @@ read-next-spec 𝓤 H 𝓜 𝓖 𝓡 =
     entered 𝓤 H (tripleOf 𝓤 H (𝓖 .A) read-next.signature (read-next.spec 𝓤 H (𝓖 .A) (𝓜 .mem) (𝓡 .run)))
     (tables 𝓤 H 𝓜 𝓡 code.env .C) (tables 𝓤 H 𝓜 𝓡 code.env .Λ) #messages·reading·read-next code.function (code.unfolded 𝓤 H 𝓜 𝓡)
     (read-next-meets 𝓤 H (𝓖 .A) (givenOf 𝓤 H 𝓜 𝓖) (𝓜 .mem) (𝓡 .run) (tablesOf 𝓤 H 𝓜 (tables 𝓤 H 𝓜 𝓡 code.env))
-    (cited 𝓤 H (ReadNumber 𝓤 H (𝓖 .A) (𝓜 .mem) (𝓡 .run)) 𝓜 𝓡 code.env #messages·read-number read-number-def.routine code.calls-messages·read-number (read-number-thm.met 𝓤 H 𝓜 𝓖 𝓡)))
+    (cited 𝓤 H (ReadNumber 𝓤 H (𝓖 .A) (𝓜 .mem) (𝓡 .run)) 𝓜 𝓡 code.env #messages·read-number read-number-def.routine code.calls-messages·numbers·read-number (read-number-thm.met 𝓤 H 𝓜 𝓖 𝓡)))

@@ -1,0 +1,136 @@
+// Questions: written by a rebuilder, read by a holder.
+ghost use mathlib.Core.Path.{_≡_};
+ghost use mathlib.Core.List.{_++_};
+ghost use Rattle.messages.specs.Numbers.{number};
+ghost use Rattle.messages.specs.Questions.{questionBytes, asking, openingIn, openingAt, rangeIn, rangeAt, fieldsAt};
+ghost use Rattle.messages.specs.Writing.{leaves, putFront};
+use crate::Kind;
+use crate::NumberRead;
+use crate::Question;
+use crate::QuestionRead;
+use crate::WriteResult;
+use crate::numbers::number_size;
+use crate::numbers::put_number;
+use crate::reading::next_number;
+use crate::writing::write_two;
+use strings::Refusal;
+
+// The question of a kind with its two fields.
+fn ask(kind: Kind, a: u32, b: u32) -> Question
+    ensures { λ r. ⌜ r ≡ asking kind a b ⌝ }
+{
+    match kind {
+        Kind::Open => Question::AskOpen(a, b),
+        Kind::Hash => Question::AskHash(a, b),
+        Kind::Syndrome => Question::AskSyndrome(a, b),
+        Kind::Bits => Question::AskBits(a, b),
+    }
+}
+
+// An opening whose fields were read up to position `end` of `size` bytes.
+fn opening_in(size: usize, version: u32, h: u32, key: u32, end: usize) -> QuestionRead
+    ensures { λ r. ⌜ r ≡ openingIn size version h key end ⌝ }
+{
+    if end < size {
+        return QuestionRead::NoQuestion(Refusal::LeftOver);
+    }
+    if version != 1 {
+        return QuestionRead::NoQuestion(Refusal::OutOfRange);
+    }
+    if h < 8 {
+        return QuestionRead::NoQuestion(Refusal::OutOfRange);
+    }
+    if 32 < h {
+        return QuestionRead::NoQuestion(Refusal::OutOfRange);
+    }
+    if key < 1 {
+        return QuestionRead::NoQuestion(Refusal::OutOfRange);
+    }
+    QuestionRead::Asked(Question::AskOpen(h, key))
+}
+
+// The fields of an opening from position `at` on: version, h, key.
+fn read_opening(s: &[u8], at: usize) -> QuestionRead
+    ensures { λ r. ⌜ r ≡ openingAt (now (s .entry)) at ⌝ }
+{
+    match next_number(s, at) {
+        NumberRead::NoNumber(e) => QuestionRead::NoQuestion(e),
+        NumberRead::Value(version, b) => match next_number(s, b) {
+            NumberRead::NoNumber(e) => QuestionRead::NoQuestion(e),
+            NumberRead::Value(h, c) => match next_number(s, c) {
+                NumberRead::NoNumber(e) => QuestionRead::NoQuestion(e),
+                NumberRead::Value(key, end) => opening_in(s.len(), version, h, key, end),
+            },
+        },
+    }
+}
+
+// A question for a range of n bits whose fields were read up to position `end` of `bytes` bytes.
+fn range_in(kind: Kind, bytes: usize, n: u32, start: u32, len: u32, end: usize) -> QuestionRead
+    ensures { λ r. ⌜ r ≡ rangeIn (asking kind) bytes n start len end ⌝ }
+{
+    if end < bytes {
+        return QuestionRead::NoQuestion(Refusal::LeftOver);
+    }
+    if len < 1 {
+        return QuestionRead::NoQuestion(Refusal::OutOfRange);
+    }
+    if n < len {
+        return QuestionRead::NoQuestion(Refusal::OutOfRange);
+    }
+    if n - len < start {
+        return QuestionRead::NoQuestion(Refusal::OutOfRange);
+    }
+    QuestionRead::Asked(ask(kind, start, len))
+}
+
+// The fields of a question for a range from position `at` on: start, length.
+fn read_range(kind: Kind, s: &[u8], at: usize, n: u32) -> QuestionRead
+    ensures { λ r. ⌜ r ≡ rangeAt (asking kind) (now (s .entry)) at n ⌝ }
+{
+    match next_number(s, at) {
+        NumberRead::NoNumber(e) => QuestionRead::NoQuestion(e),
+        NumberRead::Value(start, b) => match next_number(s, b) {
+            NumberRead::NoNumber(e) => QuestionRead::NoQuestion(e),
+            NumberRead::Value(len, end) => range_in(kind, s.len(), n, start, len, end),
+        },
+    }
+}
+
+// The rest of a question of a known kind, from position `at` on, to a holder of n bits.
+pub fn read_fields(kind: Kind, s: &[u8], at: usize, n: u32) -> QuestionRead
+    ensures { λ r. ⌜ r ≡ fieldsAt kind (now (s .entry)) at n ⌝ }
+{
+    match kind {
+        Kind::Open => read_opening(s, at),
+        Kind::Hash => read_range(kind, s, at, n),
+        Kind::Syndrome => read_range(kind, s, at, n),
+        Kind::Bits => read_range(kind, s, at, n),
+    }
+}
+
+// An opening: kind 0, version 1, h, key.
+fn write_opening(h: u32, key: u32, buf: &mut [u8]) -> WriteResult
+    ensures { λ r. ⌜ leaves r (now (buf .exit)) ≡ putFront (number 0 ++ (number 1 ++ (number h ++ number key))) (now (buf .entry)) ⌝ }
+{
+    if buf.len() < 2 + number_size(h) + number_size(key) {
+        return WriteResult::TooShort;
+    }
+    let at = put_number(buf, 0, 0);
+    let next = put_number(buf, at, 1);
+    let last = put_number(buf, next, h);
+    let end = put_number(buf, last, key);
+    WriteResult::Written(end)
+}
+
+// A question is written at the front of a lent buffer.
+pub fn write_question(q: Question, buf: &mut [u8]) -> WriteResult
+    ensures { λ r. ⌜ leaves r (now (buf .exit)) ≡ putFront (questionBytes q) (now (buf .entry)) ⌝ }
+{
+    match q {
+        Question::AskOpen(h, key) => write_opening(h, key, buf),
+        Question::AskHash(start, len) => write_two(Kind::Hash, start, len, buf),
+        Question::AskSyndrome(start, len) => write_two(Kind::Syndrome, start, len, buf),
+        Question::AskBits(start, len) => write_two(Kind::Bits, start, len, buf),
+    }
+}

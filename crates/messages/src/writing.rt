@@ -1,0 +1,62 @@
+// What the writers of questions and answers share: a kind with one or two numbers, and bits.
+ghost use mathlib.Core.Path.{_≡_};
+ghost use mathlib.Core.List.{_++_};
+ghost use Prim.Native.Nat.{_+_, _≤_};
+ghost use lib.ListN.{length};
+ghost use lib.Seq.{sets};
+ghost use Rattle.strings.specs.Bits.{range, bytesFor, pack, Part};
+ghost use Rattle.messages.specs.Numbers.{number};
+ghost use Rattle.messages.specs.Kinds.{kindNumber};
+ghost use Rattle.messages.specs.Writing.{leaves, putFront};
+use crate::Kind;
+use crate::WriteResult;
+use crate::kinds::kind_number;
+use crate::numbers::number_size;
+use crate::numbers::put_number;
+
+// The len bits of `x` from bit `start` on, packed as a string, are written at the front.
+fn put_bits_first(x: &[u8], start: usize, len: usize, buf: &mut [u8])
+    requires { ⌜ Part (now x) start len ⌝ }
+    requires { ⌜ bytesFor len ≤ length (now buf) ⌝ }
+    ensures { λ r. ⌜ now (buf .exit) ≡ sets (now (buf .entry)) 0 (pack (range (now (x .entry)) start len)) ⌝ }
+{
+    strings::clear_bytes(buf, 0, (len + 7) / 8);
+    strings::copy_bits(x, start, len, buf, 0);
+}
+
+// The same from index `at` on.
+pub fn put_bits(x: &[u8], start: usize, len: usize, buf: &mut [u8], at: usize)
+    requires { ⌜ Part (now x) start len ⌝ }
+    requires { ⌜ at + bytesFor len ≤ length (now buf) ⌝ }
+    ensures { λ r. ⌜ now (buf .exit) ≡ sets (now (buf .entry)) at (pack (range (now (x .entry)) start len)) ⌝ }
+{
+    let end = buf.len();
+    put_bits_first(x, start, len, &mut buf[at..end]);
+}
+
+// A message of a kind and one number.
+pub fn write_one(kind: Kind, v: u32, buf: &mut [u8]) -> WriteResult
+    ensures { λ r. ⌜ leaves r (now (buf .exit)) ≡ putFront (number (kindNumber kind) ++ number v) (now (buf .entry)) ⌝ }
+{
+    let k = kind_number(kind);
+    if buf.len() < number_size(k) + number_size(v) {
+        return WriteResult::TooShort;
+    }
+    let at = put_number(buf, 0, k);
+    let end = put_number(buf, at, v);
+    WriteResult::Written(end)
+}
+
+// A message of a kind and two numbers.
+pub fn write_two(kind: Kind, a: u32, b: u32, buf: &mut [u8]) -> WriteResult
+    ensures { λ r. ⌜ leaves r (now (buf .exit)) ≡ putFront (number (kindNumber kind) ++ (number a ++ number b)) (now (buf .entry)) ⌝ }
+{
+    let k = kind_number(kind);
+    if buf.len() < number_size(k) + number_size(a) + number_size(b) {
+        return WriteResult::TooShort;
+    }
+    let at = put_number(buf, 0, k);
+    let next = put_number(buf, at, a);
+    let end = put_number(buf, next, b);
+    WriteResult::Written(end)
+}
