@@ -5,7 +5,8 @@ ghost use Prim.Native.Nat.{_+_, _-_, _≤_, min};
 ghost use lib.Dec.{leb};
 ghost use Rattle.strings.specs.Bits.{range};
 ghost use Rattle.protocol.specs.Anchors.{isqrt as isqrtOf, distance as distanceOf, place};
-ghost use Rattle.anchors.specs.AnchorSearch.{Ready, placeIn, Small, windowStart, windowEnd, anchorSettings, anchorRange, saidAnchor, anchorSearch};
+ghost use Rattle.anchors.specs.AnchorSearch.{placeIn, anchorSettings, anchorRange, saidAnchor, anchorSearch};
+ghost use Rattle.anchors.specs.code.Window.{Ready, Small, windowStart, windowEnd};
 use strings::Refusal;
 
 // Where an anchor is placed.

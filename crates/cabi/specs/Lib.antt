@@ -4,11 +4,4 @@ pub mod Layout
 pub mod Sheet
 pub mod Packing
 pub mod Calls
-pub mod StoreLaws
-pub mod Bytes32Laws
-pub mod LayoutLaws
-pub mod SheetLaws
-pub mod PackingLaws
-pub mod HolderBytesLaws
-pub mod RebuilderBytesLaws
-pub mod CarriedLaws
+pub mod laws

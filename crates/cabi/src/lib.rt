@@ -5,7 +5,7 @@ ghost use mathlib.Core.List.{_++_};
 ghost use Prim.Native.Nat.{_*_, _≤_};
 ghost use lib.ListN.{length, drop};
 ghost use Rattle.codes.specs.Entries.{syndromeCall, hashCall, repairCall, leaves};
-ghost use Rattle.protocol.specs.SheetRoom.{rowsNeeded};
+ghost use Rattle.protocol.specs.laws.SheetRoom.{rowsNeeded};
 ghost use Rattle.anchors.specs.AnchorSearch.{anchorSearch};
 ghost use Rattle.cabi.specs.Packing.{packed, numbered, outcomeNumber, placeNumber};
 ghost use Rattle.cabi.specs.Calls.{holderMade, holderOnBytes, holderLeft, startOnBytes, startLeft, rebuilderOnBytes, rebuilderLeft, roomsIn};

@@ -5,7 +5,7 @@ ghost use Prim.Native.Nat.{_+_, _-_, _*_, _≤_};
 ghost use lib.ListN.{length, replicate};
 ghost use lib.Seq.{sets};
 ghost use Rattle.protocol.specs.RebuilderCall.{noRow};
-ghost use Rattle.protocol.specs.SheetRoom.{rowsNeeded};
+ghost use Rattle.protocol.specs.laws.SheetRoom.{rowsNeeded};
 ghost use Rattle.cabi.specs.Sheet.{rowBytes, rowsBytes, sheetBytesAfter};
 use crate::numbers::write_two;
 use crate::numbers::write_u32;

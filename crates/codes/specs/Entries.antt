@@ -4,13 +4,12 @@ use mathlib.Core.List.{List}
 use mathlib.Core.Option.{Option, none, some}
 use Prim.Native.Nat.{ℕ, _+_}
 use lib.Dec.{eqb, leb}
-use Rattle.strings.specs.Bits.{range, bytesFor}
+use Rattle.strings.specs.Bits.{range, bytesFor, pack, atFront}
 use Rattle.strings.specs.StringRule.{stringRule}
 use Rattle.strings.specs.Refusals.{refusalNumber}
 use Rattle.codes.specs.Syndrome.{syndrome}
 use Rattle.codes.specs.Repair.{repairTo}
 use Rattle.codes.specs.Hash.{hash}
-use Rattle.codes.specs.Edits.{packedInto}
 use Rattle.codes.specs.declared.entries.NumberAnswer.{NumberAnswer}
 use Rattle.codes.specs.declared.entries.NumberAnswer.the-variants.{Value, Refused}
 use Rattle.codes.specs.declared.entries.RepairAnswer.{RepairAnswer}
@@ -69,7 +68,7 @@ pub record Repaired : Type 0 where
 abbrev pub leaves : List ℕ → Answer (Option (List Bool)) → Repaired
 leaves out (refusal number) = record { answer = refusal number; buffer = out }
 leaves out (value none) = record { answer = value nothing; buffer = out }
-leaves out (value (some x)) = record { answer = value done; buffer = packedInto x out }
+leaves out (value (some x)) = record { answer = value done; buffer = atFront (pack x) out }
 
 -- what the code's answer says, and the buffer
 abbrev pub saidRepair : RepairAnswer → List ℕ → Repaired

@@ -3,13 +3,5 @@ pub mod Syndrome
 pub mod Repair
 pub mod Hash
 pub mod Entries
-pub mod Place
-pub mod Edits
-pub mod HashForms
-pub mod SyndromeLaws
-pub mod RepairLaws
-pub mod PlaceLaws
-pub mod EditLaws
-pub mod HashLaws
-pub mod EntryLaws
-pub mod Collision
+pub mod code
+pub mod laws

@@ -3,10 +3,10 @@
 ghost use mathlib.Core.Path.{_≡_};
 ghost use Prim.Native.Nat.{_+_, _-_, _≤_, _<_};
 ghost use lib.ListN.{length};
-ghost use Rattle.strings.specs.Bits.{range, writeBits, bytesFor, Part};
+ghost use Rattle.strings.specs.Bits.{range, writeBits, bytesFor, pack, atFront, Part};
 ghost use Rattle.codes.specs.Hash.{hash};
 ghost use Rattle.codes.specs.Repair.{without, insertAt};
-ghost use Rattle.codes.specs.Edits.{edited, Editable, packedInto};
+ghost use Rattle.codes.specs.code.Edits.{edited, Editable};
 
 // What is done to a range: nothing; a bit put in at a place; the bit at a place taken out.
 pub enum Edit {
@@ -100,7 +100,7 @@ pub fn pack_edited(s: &[u8], start: usize, len: usize, e: Edit, n: usize, out: &
     requires { ⌜ Editable (now s) start len e n ⌝ }
     requires { ⌜ n ≤ 65536 ⌝ }
     requires { ⌜ bytesFor n ≤ length (now out) ⌝ }
-    ensures { λ r. ⌜ now (out .exit) ≡ packedInto (edited e (range (now (s .entry)) start len)) (now (out .entry)) ⌝ }
+    ensures { λ r. ⌜ now (out .exit) ≡ atFront (pack (edited e (range (now (s .entry)) start len))) (now (out .entry)) ⌝ }
 {
     strings::clear_bytes(out, 0, (n + 7) / 8);
     copy_edited(s, start, len, e, n, out, 0);

@@ -3,8 +3,8 @@ ghost use mathlib.Core.Path.{_≡_};
 ghost use mathlib.Core.Bool.{cond};
 ghost use Prim.Native.Nat.{_+_, _≤_, _<_};
 ghost use Rattle.strings.specs.Bits.{range, Part};
-ghost use Rattle.codes.specs.Place.{ones, zeroPlace, onePlace, rise, zeroFall, oneFall, takePlace};
-ghost use Rattle.codes.specs.Edits.{putEdit, putRepair, takeRepair, repairEdit};
+ghost use Rattle.codes.specs.code.Place.{ones, zeroPlace, onePlace, rise, zeroFall, oneFall, takePlace};
+ghost use Rattle.codes.specs.code.Edits.{putEdit, putRepair, takeRepair, repairEdit};
 use crate::edits::Edit;
 use crate::edits::Repair;
 

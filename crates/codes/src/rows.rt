@@ -4,7 +4,7 @@ ghost use mathlib.Core.List.{[], _∷_};
 ghost use Prim.Native.Nat.{_*_, _%_, _^_, _≤_};
 ghost use Rattle.strings.specs.Bits.{range, Part, byteBits};
 ghost use Rattle.codes.specs.Hash.{step as stepOf, hash};
-ghost use Rattle.codes.specs.HashForms.{Went};
+ghost use Rattle.codes.specs.code.HashForms.{Went};
 
 // One step.
 pub fn step(v: u32) -> u32

@@ -4,7 +4,7 @@ ghost use mathlib.Core.List.{[], _∷_};
 ghost use Prim.Native.Nat.{_+_, _*_, _≤_};
 ghost use Rattle.strings.specs.Bits.{range, Part, byteBits};
 ghost use Rattle.codes.specs.Syndrome.{weightedSum, syndrome};
-ghost use Rattle.codes.specs.Place.{ones, Grows};
+ghost use Rattle.codes.specs.code.Place.{ones, Grows};
 
 // The ones of some bits and their weighted sum, the sum of the places of the ones, the first place being 1.
 pub struct Sums {

@@ -7,7 +7,7 @@ use lib.ListN.{length}
 use lib.Seq.{length-sets}
 use Rattle.strings.specs.Bits.{range}
 use Rattle.lines.specs.Printing.{Puts, messageLine, lastLine, refusalLine}
-use Rattle.lines.specs.PrintLaws.{length-message-line, length-last-line, length-refusal-line}
+use Rattle.lines.specs.laws.PrintLaws.{length-message-line, length-last-line, length-refusal-line}
 
 within : {buf bytes after : List ℕ} {end : ℕ} → Puts buf 0 bytes after end → length bytes ≤ length buf → end ≤ length after
 within {buf} {bytes} {after} p h = let e = p .ends in let l = ap length (p .holds) ∙ length-sets buf 0 bytes in omega arith

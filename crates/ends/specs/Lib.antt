@@ -1,3 +1,3 @@
 -- What the rebuilder's call over a lent sheet of rows gives and leaves, and laws for its proof.
 pub mod SheetCall
-pub mod SheetCallLaws
+pub mod laws

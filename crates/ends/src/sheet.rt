@@ -6,7 +6,7 @@ ghost use Prim.Native.Nat.{_-_, _≤_, _<_};
 ghost use lib.ListN.{length, replicate};
 ghost use lib.Seq.{sets};
 ghost use Rattle.protocol.specs.RebuilderCall.{noRow, rebuilderCall, sheetAfter};
-ghost use Rattle.protocol.specs.SheetRoom.{rowsNeeded};
+ghost use Rattle.protocol.specs.laws.SheetRoom.{rowsNeeded};
 ghost use Rattle.rebuilder.specs.RebuilderOutcome.{rooms};
 ghost use Rattle.ends.specs.SheetCall.{saidOnSheet, leavesOnSheet};
 use protocol::Rebuilder;

@@ -1,4 +1,4 @@
 -- What the holder's call gives and leaves, what its parts require, and laws for their proofs.
 pub mod HolderOutcome
-pub mod HolderParts
-pub mod HolderCodeLaws
+pub mod code
+pub mod laws

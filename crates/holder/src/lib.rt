@@ -11,7 +11,7 @@ ghost use Rattle.messages.specs.declared.QuestionRead.the-variants.{Asked};
 ghost use Rattle.messages.specs.Answers.{sizeAnswer, hashAnswer, syndromeAnswer, bitsAnswer, answerBytes};
 ghost use Rattle.protocol.specs.HolderCall.{freshHolder, sameBitCount, inTurn, sends, answersTo, ofKind, holderCall};
 ghost use Rattle.holder.specs.HolderOutcome.{saidHolder, leavesHolder};
-ghost use Rattle.holder.specs.HolderParts.{refused, written, openedWith, oneMore, Answers, Able, Ready};
+ghost use Rattle.holder.specs.code.HolderParts.{refused, written, openedWith, oneMore, Answers, Able, Ready};
 use messages::Kind;
 use messages::KindRead;
 use messages::Question;

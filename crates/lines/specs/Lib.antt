@@ -3,8 +3,5 @@ pub mod Fields
 pub mod SettingsLine
 pub mod StringLine
 pub mod Printing
-pub mod FieldLaws
-pub mod SettingsLaws
-pub mod StringLaws
-pub mod PrintLaws
-pub mod Samples
+pub mod laws
+pub mod examples

@@ -3,10 +3,6 @@ pub mod Numbers
 pub mod Kinds
 pub mod Questions
 pub mod Answers
-pub mod NumberLaws
-pub mod KindLaws
-pub mod QuestionLaws
-pub mod AnswerLaws
 pub mod Writing
-pub mod WritingLaws
-pub mod Samples
+pub mod laws
+pub mod examples

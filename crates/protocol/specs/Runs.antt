@@ -3,7 +3,7 @@ use mathlib.Core.Path.{_≡_}
 use mathlib.Core.Bool.{Bool, false, cond, _&&_}
 use mathlib.Core.List.{List, [], _∷_, _++_}
 use mathlib.Core.Option.{Option, some}
-use Prim.Native.Nat.{ℕ, zero, suc, _+_}
+use Prim.Native.Nat.{ℕ, zero, suc, _+_, _/_}
 use lib.ListN.{length}
 use lib.Dec.{ltb}
 use Rattle.codes.specs.Syndrome.{syndrome}
@@ -31,6 +31,10 @@ told S X q = answer (S .h) (S .key) X q
 -- an answer's bytes, as the count takes them
 unfoldable pub sizeOf : Answer → ℕ
 sizeOf a = length (answerBytes a)
+
+-- 01's F: the bytes of the answer to bits 0, n
+abbrev pub full : ℕ → ℕ
+full n = 1 + (n + 7) / 8
 
 -- before the opening's answer; with n, the counted bytes, the pieces and the rows, finished where no piece waits; the same, but bits 0, n asked for
 pub data Run : Type 0 where

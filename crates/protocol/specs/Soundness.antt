@@ -10,8 +10,7 @@ use Rattle.protocol.specs.declared.Rebuilder.{Rebuilder}
 use Rattle.protocol.specs.declared.Holder.{Holder}
 use Rattle.protocol.specs.Limits.{withinLimits, between}
 use Rattle.protocol.specs.Segments.{tooSmall}
-use Rattle.protocol.specs.Counts.{bound}
-use Rattle.protocol.specs.Shape.{full}
+use Rattle.protocol.specs.Runs.{full}
 use Rattle.protocol.specs.States.{noPiece, held, top}
 
 -- ---- the holder
@@ -30,6 +29,11 @@ isBlank pc = eqb (pc .x) 0 && (eqb (pc .p) 0 && (eqb (pc .y) 0 && eqb (pc .q) 0)
 unfoldable pub blankFrom : List Piece → (k i : ℕ) → Bool
 blankFrom l zero i = true
 blankFrom l (suc k) i = isBlank (getD l i noPiece) && blankFrom l k (suc i)
+
+-- how long a waiting piece with so many others to its right can be: a split leaves at most 5/8
+abbrev pub bound : ℕ → ℕ
+bound zero = 65536
+bound (suc i) = 5 * bound i / 8
 
 -- a waiting piece with d others to its right, of n bits of X and e of Y, not before x and y: it has bits, ends in time, and is not longer than splitting leaves
 unfoldable pub pieceFits : (n e x y d : ℕ) → Piece → Bool

@@ -10,42 +10,42 @@ use native.Mathlib.Omega.{arith}
 use lib.ListN.{length, take}
 use lib.Dec.{leb}
 use borrow.Author.Tests.{eq-eqb, le-leb, lt-ltb, ne-eqb}
-use Rattle.messages.specs.AnswerLaws.{answer-reads}
+use Rattle.messages.specs.laws.AnswerLaws.{answer-reads}
 use Rattle.messages.specs.Answers.{Answer, answerBytes, answerValue, readAnswer}
 use Rattle.messages.specs.Kinds.{kindAt}
 use Rattle.messages.specs.Numbers.{numberAt}
-use Rattle.messages.specs.QuestionLaws.{InRange, question-fields-read, question-kind-reads, question-known, question-reads}
+use Rattle.messages.specs.laws.QuestionLaws.{InRange, question-fields-read, question-kind-reads, question-known, question-reads}
 use Rattle.messages.specs.Questions.{questionBytes, questionKind, readQuestion}
 use Rattle.messages.specs.declared.Question.{Question}
 use Rattle.messages.specs.declared.Question.the-variants.{AskBits, AskHash, AskOpen, AskSyndrome}
 use Rattle.messages.specs.declared.QuestionRead.the-variants.{Asked}
-use Rattle.protocol.specs.Asking.{asks-planned, hears-value, passes-of}
-use Rattle.protocol.specs.Delivery.{NotOpen, NotOpening, StartedIs, advanced, inside-range, later-not-open, length-most, sheet-length-after, started-is, step-answered, string-length-after}
+use Rattle.protocol.specs.laws.Asking.{asks-planned, hears-value, passes-of}
+use Rattle.protocol.specs.laws.Delivery.{NotOpen, NotOpening, StartedIs, advanced, inside-range, later-not-open, length-most, sheet-length-after, started-is, step-answered, string-length-after}
 use Rattle.protocol.specs.HolderCall.{Heard, afterAnswer, declines, freshHolder, holderCall, inTurn, replies, sameBitCount, sends}
-use Rattle.protocol.specs.HolderLaws.{Made, OpenedIs, counts, fresh-holder-sound, heard-call, heard-made, holder-sound, opened-sound, opens}
-use Rattle.protocol.specs.Invariant.{Truth, proper-now, question-inside, run-ok, sizeOfRun}
-use Rattle.protocol.specs.Kept.{bytesOf, count-is, kept}
+use Rattle.protocol.specs.laws.HolderLaws.{Made, OpenedIs, counts, fresh-holder-sound, heard-call, heard-made, holder-sound, opened-sound, opens}
+use Rattle.protocol.specs.laws.Invariant.{Truth, proper-now, question-inside, run-ok, sizeOfRun}
+use Rattle.protocol.specs.laws.Kept.{bytesOf, count-is, kept}
 use Rattle.protocol.specs.Limits.{Limits}
 use Rattle.protocol.specs.RebuilderCall.{Step, Taken, bitsKnown, freshRebuilder, questionLength, rebuilderCall, refuses, roomFor, sheetAfter, stepOf, stringAfter, takes, writtenQuestion}
-use Rattle.protocol.specs.Runs.{Honest, Run, answer, countOf, opening, piecesOf, question, run, sheetOf, sizeOf, string, told, whole, working}
+use Rattle.protocol.specs.Runs.{Honest, Run, answer, countOf, opening, piecesOf, question, run, sheetOf, sizeOf, string, told, whole, working, full}
 use Rattle.protocol.specs.Segments.{asks, settled}
-use Rattle.protocol.specs.Shape.{Inside, Proper, full, sizes}
-use Rattle.protocol.specs.SoundLaws.{and-true}
-use Rattle.protocol.specs.SoundSteps.{fresh-sound, step-sound}
+use Rattle.protocol.specs.laws.Shape.{Inside, Proper, sizes}
+use Rattle.protocol.specs.laws.SoundLaws.{and-true}
+use Rattle.protocol.specs.laws.SoundSteps.{fresh-sound, step-sound}
 use Rattle.protocol.specs.Soundness.{sound}
-use Rattle.protocol.specs.StackLaws.{numberedPhase}
-use Rattle.protocol.specs.Standing.{Stands}
+use Rattle.protocol.specs.laws.StackLaws.{numberedPhase}
+use Rattle.protocol.specs.laws.Standing.{Stands}
 use Rattle.protocol.specs.States.{planned}
-use Rattle.protocol.specs.Steps.{RoomFor, phase-none, phase-one, phase-two, stands-step}
-use Rattle.protocol.specs.Store.{Tidy, asks-same, atOpening, atPieces, atWhole, keeps-pace, storeOf}
+use Rattle.protocol.specs.laws.Steps.{RoomFor, phase-none, phase-one, phase-two, stands-step}
+use Rattle.protocol.specs.laws.Store.{Tidy, asks-same, atOpening, atPieces, atWhole, keeps-pace, storeOf}
 use Rattle.protocol.specs.Worlds.{AnswerTo, Call, Delivered, Earlier, Fair, FairCall, Lent, Member, OnceEach, Supposed, World, afterHeard, afterTaken, bitsOfX, bitsOfY, countedBytes, firstWorld, roomsOf, sent, stepWorld, toHolder, toRebuilder, world, worldAfter}
 use Rattle.protocol.specs.declared.Holder.{Holder}
 use Rattle.protocol.specs.declared.Rebuilder.{Rebuilder}
 use Rattle.protocol.specs.declared.Row.{Row}
 use Rattle.protocol.specs.declared.Settings.{Settings}
 use Rattle.strings.specs.Bits.{bytesFor, range}
-use Rattle.strings.specs.RangeLaws.{range-length}
-use Rattle.strings.specs.RuleLaws.{rule-is}
+use Rattle.strings.specs.laws.RangeLaws.{range-length}
+use Rattle.strings.specs.laws.RuleLaws.{rule-is}
 
 -- an empty message is no question
 no-question : (n : ℕ) (q : Question) → readQuestion [] n ≡ Asked q → ⊥

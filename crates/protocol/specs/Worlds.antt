@@ -11,15 +11,11 @@ use Rattle.messages.specs.Questions.{questionBytes, readQuestion}
 use Rattle.messages.specs.declared.Question.{Question}
 use Rattle.messages.specs.declared.QuestionRead.the-variants.{Asked}
 use Rattle.protocol.specs.Anchors.{part}
-use Rattle.protocol.specs.Counts.{isWait}
+use Rattle.protocol.specs.Claims.{isWait, At, Finished, Settled, total}
 use Rattle.protocol.specs.HolderCall.{Heard, declines, freshHolder, holderCall, replies}
-use Rattle.protocol.specs.Kept.{At, Finished}
 use Rattle.protocol.specs.RebuilderCall.{Rooms, Step, Taken, rebuilderCall, rebuilderStart, refuses, sheetAfter, starts, stringAfter, takes, writtenQuestion}
-use Rattle.protocol.specs.Right.{Settled}
-use Rattle.protocol.specs.Runs.{Honest, copies, piecesOf, question, run, sheetOf, string, told}
-use Rattle.protocol.specs.SegmentLaws.{total}
+use Rattle.protocol.specs.Runs.{Honest, copies, piecesOf, question, run, sheetOf, string, told, full}
 use Rattle.protocol.specs.Segments.{asks, settled, waiting}
-use Rattle.protocol.specs.Shape.{full}
 use Rattle.protocol.specs.declared.Holder.{Holder}
 use Rattle.protocol.specs.declared.How.{How}
 use Rattle.protocol.specs.declared.Rebuilder.{Rebuilder}

@@ -1,5 +1,4 @@
 -- What the rebuilder's start and call give and leave, what their parts require, and laws for their proofs.
 pub mod RebuilderOutcome
-pub mod RebuilderParts
-pub mod RebuilderCodeLaws
-pub mod RebuilderCallLaws
+pub mod code
+pub mod laws

@@ -11,7 +11,7 @@ ghost use Rattle.protocol.specs.States.{planned};
 ghost use Rattle.protocol.specs.Soundness.{sound};
 ghost use Rattle.protocol.specs.RebuilderCall.{questionLength, awaits, rebuilderCall, rebuilderStart};
 ghost use Rattle.rebuilder.specs.RebuilderOutcome.{saidRebuilder, leavesRebuilder, rooms, noRebuilder, saidStart, leavesStart};
-ghost use Rattle.rebuilder.specs.RebuilderParts.{turnedDown, Due, answerRoom, heardStep};
+ghost use Rattle.rebuilder.specs.code.RebuilderParts.{turnedDown, Due, answerRoom, heardStep};
 ghost use Rattle.rebuilder.specs.declared.StartAnswer.the-variants.{NotBegun};
 use messages::AnswerRead;
 use messages::Kind;

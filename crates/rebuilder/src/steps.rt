@@ -5,7 +5,7 @@ ghost use mathlib.Core.List.{List};
 ghost use Prim.Native.Nat.{ℕ, _+_, _*_, _≤_, _<_};
 ghost use lib.ListN.{length};
 ghost use Rattle.strings.specs.Bits.{range, bytesFor};
-ghost use Rattle.codes.specs.Edits.{Fits};
+ghost use Rattle.codes.specs.code.Edits.{Fits};
 ghost use Rattle.messages.specs.Answers.{sizeAnswer, hashAnswer, syndromeAnswer, bitsAnswer};
 ghost use Rattle.protocol.specs.Segments.{howNumber, row};
 ghost use Rattle.protocol.specs.States.{top, popped, restaged, retried, splitAt};
@@ -14,7 +14,7 @@ ghost use Rattle.protocol.specs.declared.SheetChange.the-variants.{NoRow, AddRo
 ghost use Rattle.protocol.specs.declared.How.the-variants.{ByAnchor};
 ghost use Rattle.protocol.specs.RebuilderCall.{tallied, stepOf};
 ghost use Rattle.rebuilder.specs.RebuilderOutcome.{saidRebuilder, leavesRebuilder};
-ghost use Rattle.rebuilder.specs.RebuilderParts.{OutIs, Acting, Splitting, Lending, OneApart, repairHow, trialStep, stepTaken, WholeDue, Opening, BitsDue, dueLength};
+ghost use Rattle.rebuilder.specs.code.RebuilderParts.{OutIs, Acting, Splitting, Lending, OneApart, repairHow, trialStep, stepTaken, WholeDue, Opening, BitsDue, dueLength};
 use crate::RebuilderAnswer;
 use crate::RebuilderOut;
 use anchors::Place;

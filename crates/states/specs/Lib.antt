@@ -1,4 +1,3 @@
 -- What the functions on states require, and laws for their proofs. What they do is defined in protocol: States, RebuilderCall, Soundness.
-pub mod StateCode
-pub mod SoundCode
-pub mod SoundLaws
+pub mod code
+pub mod laws

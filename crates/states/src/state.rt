@@ -6,7 +6,7 @@ ghost use Prim.Native.Nat.{ℕ, _+_, _-_, _*_, _/_, _≤_, _<_};
 ghost use Rattle.protocol.specs.Segments.{tooSmall};
 ghost use Rattle.protocol.specs.States.{noPiece, top, popped, pushed, restaged, retried, splitAt, laterNumber, firstNumber, nextNumber, anchorOffset, askFor, planned};
 ghost use Rattle.protocol.specs.RebuilderCall.{tallied, openingStep, wholeStep, freshRebuilder};
-ghost use Rattle.states.specs.StateCode.{withinOne, planOf, Usable, Holds, Stages, Retries, Offsets, Splits, Counts, Asks, Plans};
+ghost use Rattle.states.specs.code.StateCode.{withinOne, planOf, Usable, Holds, Stages, Retries, Offsets, Splits, Counts, Asks, Plans};
 use messages::Question;
 use protocol::Piece;
 use protocol::Rebuilder;

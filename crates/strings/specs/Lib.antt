@@ -2,10 +2,4 @@
 pub mod Bits
 pub mod StringRule
 pub mod Refusals
-pub mod Tests
-pub mod BitLaws
-pub mod RangeLaws
-pub mod WriteLaws
-pub mod RuleLaws
-pub mod PackLaws
-pub mod ByteLaws
+pub mod laws

@@ -1,5 +1,5 @@
 -- `anchors::ends_by` meets its contract. Assumes nothing.
-use Rattle.anchors.specs.AnchorSearchLaws.{ends-late, ends-by-rest}
+use Rattle.anchors.specs.laws.AnchorSearchLaws.{ends-late, ends-by-rest}
 use Rattle.anchors.proofs.ends_by.Statement.{statement}
 use Rattle.anchors.proofs.ends_by.Tie as tie
 

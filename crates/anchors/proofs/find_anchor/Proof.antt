@@ -4,7 +4,7 @@ use mathlib.Core.Bool.{true}
 use borrow.Author.Tests.{not-true, not-false}
 use Rattle.strings.specs.StringRule.{stringRule}
 use Rattle.anchors.specs.AnchorSearch.{anchorSettings, anchorRange}
-use Rattle.anchors.specs.AnchorSearchLaws.{bad-setting, bad-copy, bad-anchor, out-of-range, tested-ready, answers-at, answers-nowhere}
+use Rattle.anchors.specs.laws.AnchorSearchLaws.{bad-setting, bad-copy, bad-anchor, out-of-range, tested-ready, answers-at, answers-nowhere}
 use borrow.Author.Needs.{needs}
 use Rattle.anchors.proofs.find_anchor.Statement.{statement}
 use Rattle.anchors.proofs.find_anchor.Tie as tie

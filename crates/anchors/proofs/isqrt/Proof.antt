@@ -2,7 +2,7 @@
 use Prim.Native.Nat.{_+_, _-_, _*_, _≤_}
 use native.Mathlib.Omega.{arith}
 use borrow.Author.Needs.{needs}
-use Rattle.anchors.specs.AnchorSearchLaws.{root-is, square-grows, square-fits}
+use Rattle.anchors.specs.laws.AnchorSearchLaws.{root-is, square-grows, square-fits}
 use Rattle.anchors.proofs.isqrt.Statement.{statement}
 use Rattle.anchors.proofs.isqrt.Tie as tie
 

@@ -1,7 +1,7 @@
 -- `anchors::keeps_anchor_range` meets its contract. Assumes nothing.
 use borrow.Author.Tests.{not-true, not-false}
 use borrow.Author.Needs.{needs}
-use Rattle.anchors.specs.AnchorSearchLaws.{range-piece, range-length-high, range-offset}
+use Rattle.anchors.specs.laws.AnchorSearchLaws.{range-piece, range-length-high, range-offset}
 use Rattle.anchors.proofs.keeps_anchor_range.Statement.{statement}
 use Rattle.anchors.proofs.keeps_anchor_range.Tie as tie
 

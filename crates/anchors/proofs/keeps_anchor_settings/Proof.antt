@@ -1,5 +1,5 @@
 -- `anchors::keeps_anchor_settings` meets its contract. Assumes nothing.
-use Rattle.anchors.specs.AnchorSearchLaws.{settings-m-low, settings-m-high, settings-k-low, settings-k-high}
+use Rattle.anchors.specs.laws.AnchorSearchLaws.{settings-m-low, settings-m-high, settings-k-low, settings-k-high}
 use Rattle.anchors.proofs.keeps_anchor_settings.Statement.{statement}
 use Rattle.anchors.proofs.keeps_anchor_settings.Tie as tie
 

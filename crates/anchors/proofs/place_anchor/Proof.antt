@@ -4,8 +4,8 @@ use mathlib.Core.Path.{_≡_}
 use Prim.Native.Nat.{_+_, _-_, _*_, _≤_, _<_}
 use native.Mathlib.Omega.{arith}
 use borrow.Author.Needs.{needs}
-use Rattle.anchors.specs.AnchorSearch.{windowEnd}
-use Rattle.anchors.specs.AnchorSearchLaws.{isqrt-le, reach-fits, end-most, end-near, end-less, start-most, start-near, Alike, alike-none, alike-next, Searched, search-start, search-differs, search-agrees, search-at, search-nowhere}
+use Rattle.anchors.specs.code.Window.{windowEnd}
+use Rattle.anchors.specs.laws.AnchorSearchLaws.{isqrt-le, reach-fits, end-most, end-near, end-less, start-most, start-near, Alike, alike-none, alike-next, Searched, search-start, search-differs, search-agrees, search-at, search-nowhere}
 use Rattle.anchors.proofs.place_anchor.Statement.{statement}
 use Rattle.anchors.proofs.place_anchor.Tie as tie
 

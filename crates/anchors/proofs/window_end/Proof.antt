@@ -1,6 +1,6 @@
 -- `anchors::window_end` meets its contract. Assumes nothing.
 use borrow.Author.Needs.{needs}
-use Rattle.anchors.specs.AnchorSearch.{windowEnd}
+use Rattle.anchors.specs.code.Window.{windowEnd}
 use Rattle.anchors.proofs.window_end.Statement.{statement}
 use Rattle.anchors.proofs.window_end.Tie as tie
 

@@ -1,6 +1,6 @@
 -- `anchors::window_start` meets its contract. Assumes nothing.
 use borrow.Author.Needs.{needs}
-use Rattle.anchors.specs.AnchorSearch.{windowStart}
+use Rattle.anchors.specs.code.Window.{windowStart}
 use Rattle.anchors.proofs.window_start.Statement.{statement}
 use Rattle.anchors.proofs.window_start.Tie as tie
 

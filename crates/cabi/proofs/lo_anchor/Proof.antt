@@ -1,6 +1,6 @@
 use mathlib.Core.Path.{ap, _∙_}
 use Rattle.cabi.specs.Packing.{packed, numbered, placeNumber}
-use Rattle.cabi.specs.PackingLaws.{place-fits}
+use Rattle.cabi.specs.laws.PackingLaws.{place-fits}
 use borrow.Author.Needs.{needs}
 use Rattle.cabi.proofs.lo_anchor.Statement.{statement}
 use Rattle.cabi.proofs.lo_anchor.Tie as tie

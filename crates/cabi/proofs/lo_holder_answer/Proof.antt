@@ -3,7 +3,7 @@ use mathlib.Core.Bool.{true}
 use native.Mathlib.Omega.{arith}
 use borrow.Author.Tests.{not-true, not-false}
 use Rattle.strings.specs.StringRule.{stringRule}
-use Rattle.cabi.specs.HolderBytesLaws.{holder-bad-string, holder-no-state, answer-declined, answer-small, answer-replied}
+use Rattle.cabi.specs.laws.HolderBytesLaws.{holder-bad-string, holder-no-state, answer-declined, answer-small, answer-replied}
 use borrow.Author.Needs.{needs}
 use Rattle.cabi.proofs.lo_holder_answer.Statement.{statement}
 use Rattle.cabi.proofs.lo_holder_answer.Tie as tie

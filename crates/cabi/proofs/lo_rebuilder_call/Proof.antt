@@ -2,7 +2,7 @@ use mathlib.Core.Path.{_≡_, sym, _∙_}
 use mathlib.Core.Bool.{true}
 use borrow.Author.Tests.{not-true, not-false}
 use Rattle.strings.specs.StringRule.{stringRule}
-use Rattle.cabi.specs.RebuilderBytesLaws.{call-bad-string, call-no-state, call-rows, call-small, call-declined, call-asks, call-finished}
+use Rattle.cabi.specs.laws.RebuilderBytesLaws.{call-bad-string, call-no-state, call-rows, call-small, call-declined, call-asks, call-finished}
 use borrow.Author.Needs.{needs}
 use Rattle.cabi.proofs.lo_rebuilder_call.Statement.{statement}
 use Rattle.cabi.proofs.lo_rebuilder_call.Tie as tie

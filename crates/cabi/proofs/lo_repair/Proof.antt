@@ -1,7 +1,7 @@
 use mathlib.Core.Path.{ap, sym, _∙_}
 use Rattle.codes.specs.Entries.{Repaired}
 use Rattle.cabi.specs.Packing.{packed, numbered, outcomeNumber}
-use Rattle.cabi.specs.PackingLaws.{said-buffer}
+use Rattle.cabi.specs.laws.PackingLaws.{said-buffer}
 use borrow.Author.Needs.{needs}
 use Rattle.cabi.proofs.lo_repair.Statement.{statement}
 use Rattle.cabi.proofs.lo_repair.Tie as tie

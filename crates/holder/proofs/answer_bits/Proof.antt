@@ -1,5 +1,5 @@
 use mathlib.Core.Path.{refl}
-use Rattle.holder.specs.HolderCodeLaws.{written-said}
+use Rattle.holder.specs.laws.HolderCodeLaws.{written-said}
 use borrow.Author.Needs.{needs}
 use Rattle.holder.proofs.answer_bits.Statement.{statement}
 use Rattle.holder.proofs.answer_bits.Tie as tie

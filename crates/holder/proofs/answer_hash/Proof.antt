@@ -1,7 +1,7 @@
 use mathlib.Core.Path.{ap}
 use Prim.Native.Nat.{ℕ}
 use Rattle.messages.specs.Answers.{hashAnswer, answerBytes}
-use Rattle.holder.specs.HolderCodeLaws.{written-said}
+use Rattle.holder.specs.laws.HolderCodeLaws.{written-said}
 use borrow.Author.Needs.{needs}
 use Rattle.holder.proofs.answer_hash.Statement.{statement}
 use Rattle.holder.proofs.answer_hash.Tie as tie

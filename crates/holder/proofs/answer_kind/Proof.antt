@@ -1,7 +1,7 @@
 use mathlib.Core.Path.{sym, _∙_}
 use lib.ListN.{length}
 use borrow.Author.Tests.{not-true, not-false}
-use Rattle.holder.specs.HolderCodeLaws.{refused-said, kind-out-of-turn, kind-fields, able-ready, said-by}
+use Rattle.holder.specs.laws.HolderCodeLaws.{refused-said, kind-out-of-turn, kind-fields, able-ready, said-by}
 use borrow.Author.Needs.{needs}
 use Rattle.holder.proofs.answer_kind.Statement.{statement}
 use Rattle.holder.proofs.answer_kind.Tie as tie

@@ -1,4 +1,4 @@
-use Rattle.holder.specs.HolderCodeLaws.{ready-within, able-answers, open-asked, hash-asked, syndrome-asked, bits-asked}
+use Rattle.holder.specs.laws.HolderCodeLaws.{ready-within, able-answers, open-asked, hash-asked, syndrome-asked, bits-asked}
 use borrow.Author.Needs.{needs}
 use Rattle.holder.proofs.answer_question.Statement.{statement}
 use Rattle.holder.proofs.answer_question.Tie as tie

@@ -2,7 +2,7 @@ use mathlib.Core.Path.{ap₂}
 use Prim.Native.Nat.{ℕ}
 use native.Mathlib.Omega.{arith}
 use Rattle.messages.specs.Answers.{syndromeAnswer, answerBytes}
-use Rattle.holder.specs.HolderCodeLaws.{syndrome-few, written-said}
+use Rattle.holder.specs.laws.HolderCodeLaws.{syndrome-few, written-said}
 use borrow.Author.Needs.{needs}
 use Rattle.holder.proofs.answer_syndrome.Statement.{statement}
 use Rattle.holder.proofs.answer_syndrome.Tie as tie

@@ -6,8 +6,8 @@ use borrow.Author.Tests.{not-true, not-false}
 use Rattle.strings.specs.StringRule.{stringRule}
 use Rattle.protocol.specs.Soundness.{holderSound}
 use Rattle.protocol.specs.HolderCall.{sameBitCount}
-use Rattle.holder.specs.HolderCodeLaws.{refused-said, tests-able, able-few, call-bad-string, call-out-of-turn, call-kind, said-by}
-use Rattle.strings.specs.Tests.{test-is}
+use Rattle.holder.specs.laws.HolderCodeLaws.{refused-said, tests-able, able-few, call-bad-string, call-out-of-turn, call-kind, said-by}
+use Rattle.strings.specs.laws.Tests.{test-is}
 use borrow.Author.Needs.{needs}
 use Rattle.holder.proofs.holder_call.Statement.{statement}
 use Rattle.holder.proofs.holder_call.Tie as tie

@@ -1,7 +1,7 @@
 -- The proof of the cycle of calls {put_decimal}. The measure is the number.
 use native.Mathlib.Omega.{arith}
 use borrow.Author.Needs.{needs}
-use Rattle.lines.specs.PrintLaws.{length-low, length-high, decimal-one, decimal-more}
+use Rattle.lines.specs.laws.PrintLaws.{length-low, length-high, decimal-one, decimal-more}
 use Prim.Native.Nat.{ℕ, _<_}
 use borrow.Fn.Kinds.{In}
 use borrow.Fn.PlainCycle.{Measures, is, falls, and}

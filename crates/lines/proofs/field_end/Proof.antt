@@ -3,7 +3,7 @@ use mathlib.Core.Path.{_≡_, refl, _∙_}
 use borrow.Author.Needs.{needs}
 use lib.ListN.{length}
 use Rattle.lines.specs.Fields.{fieldEnd}
-use Rattle.lines.specs.FieldLaws.{end-here, end-next, end-last}
+use Rattle.lines.specs.laws.FieldLaws.{end-here, end-next, end-last}
 use Rattle.lines.proofs.field_end.Statement.{statement}
 use Rattle.lines.proofs.field_end.Tie as tie
 

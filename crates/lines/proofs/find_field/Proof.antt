@@ -1,7 +1,7 @@
 use mathlib.Core.Path.{_≡_, refl, _∙_}
 use borrow.Author.Needs.{needs}
 use Rattle.lines.specs.Fields.{fieldFrom, field}
-use Rattle.lines.specs.FieldLaws.{found-here, found-missing, found-next}
+use Rattle.lines.specs.laws.FieldLaws.{found-here, found-missing, found-next}
 use Rattle.lines.proofs.find_field.Statement.{statement}
 use Rattle.lines.proofs.find_field.Tie as tie
 

@@ -1,6 +1,5 @@
 use mathlib.Core.Path.{sym, _∙_}
-use Rattle.lines.specs.SettingsLaws.{five-none, five-one, five-two, five-three, five-four, five-all}
-use borrow.Author.Needs.{needs}
+use Rattle.lines.specs.laws.SettingsLaws.{five-none, five-one, five-two, five-three, five-four, five-all}
 use borrow.Author.Needs.{needs}
 use Rattle.lines.proofs.five_groups.Statement.{statement}
 use Rattle.lines.proofs.five_groups.Tie as tie

@@ -1,6 +1,5 @@
 use borrow.Author.Needs.{needs}
-use Rattle.lines.specs.PrintLaws.{hex-low, hex-high}
-use borrow.Author.Needs.{needs}
+use Rattle.lines.specs.laws.PrintLaws.{hex-low, hex-high}
 use Rattle.lines.proofs.hex_digit.Statement.{statement}
 use Rattle.lines.proofs.hex_digit.Tie as tie
 

@@ -1,4 +1,4 @@
-use Rattle.lines.specs.StringLaws.{bit-zero, bit-one}
+use Rattle.lines.specs.laws.StringLaws.{bit-zero, bit-one}
 use Rattle.lines.proofs.is_bit.Statement.{statement}
 use Rattle.lines.proofs.is_bit.Tie as tie
 

@@ -1,4 +1,4 @@
-use Rattle.lines.specs.SettingsLaws.{digit-low, digit-high}
+use Rattle.lines.specs.laws.SettingsLaws.{digit-low, digit-high}
 use Rattle.lines.proofs.is_digit.Statement.{statement}
 use Rattle.lines.proofs.is_digit.Tie as tie
 

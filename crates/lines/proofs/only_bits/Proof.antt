@@ -4,7 +4,7 @@ use borrow.Author.Needs.{needs}
 use borrow.Author.Tests.{not-true, not-false}
 use lib.ListN.{length, drop}
 use Rattle.lines.specs.StringLine.{allBits}
-use Rattle.lines.specs.StringLaws.{bits-other, bits-next, bits-last}
+use Rattle.lines.specs.laws.StringLaws.{bits-other, bits-next, bits-last}
 use Rattle.lines.proofs.only_bits.Statement.{statement}
 use Rattle.lines.proofs.only_bits.Tie as tie
 

@@ -1,6 +1,5 @@
-use Rattle.lines.specs.StringLaws.{string-long, string-other, string-short, string-packed}
+use Rattle.lines.specs.laws.StringLaws.{string-long, string-other, string-short, string-packed}
 use borrow.Author.Tests.{not-true, not-false}
-use borrow.Author.Needs.{needs}
 use borrow.Author.Needs.{needs}
 use Rattle.lines.proofs.parse_bits.Statement.{statement}
 use Rattle.lines.proofs.parse_bits.Tie as tie

@@ -5,7 +5,7 @@ use borrow.Author.Needs.{needs}
 use borrow.Author.Tests.{not-true, not-false}
 use lib.ListN.{length, drop}
 use Rattle.lines.specs.SettingsLine.{decimalOf}
-use Rattle.lines.specs.SettingsLaws.{decimalRest, decimal-none, decimal-first, decimal-other, decimal-next, decimal-large, decimal-last}
+use Rattle.lines.specs.laws.SettingsLaws.{decimalRest, decimal-none, decimal-first, decimal-other, decimal-next, decimal-large, decimal-last}
 use Rattle.lines.proofs.parse_decimal.Statement.{statement}
 use Rattle.lines.proofs.parse_decimal.Tie as tie
 

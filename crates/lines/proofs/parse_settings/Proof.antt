@@ -1,6 +1,5 @@
 use mathlib.Core.Path.{_∙_}
-use Rattle.lines.specs.SettingsLaws.{settings-long, settings-more, settings-five}
-use borrow.Author.Needs.{needs}
+use Rattle.lines.specs.laws.SettingsLaws.{settings-long, settings-more, settings-five}
 use borrow.Author.Needs.{needs}
 use Rattle.lines.proofs.parse_settings.Statement.{statement}
 use Rattle.lines.proofs.parse_settings.Tie as tie

@@ -6,9 +6,9 @@ use borrow.Author.Needs.{needs}
 use lib.ListN.{length, length-set}
 use lib.Seq.{sets}
 use Rattle.strings.specs.Bits.{range}
-use Rattle.strings.specs.RangeLaws.{rest, rest-first}
+use Rattle.strings.specs.laws.RangeLaws.{rest, rest-first}
 use Rattle.lines.specs.Printing.{bitBytes}
-use Rattle.lines.specs.PrintLaws.{text-next, text-last, text-whole}
+use Rattle.lines.specs.laws.PrintLaws.{text-next, text-last, text-whole}
 use Rattle.lines.proofs.put_bits.Statement.{statement}
 use Rattle.lines.proofs.put_bits.Tie as tie
 

@@ -5,7 +5,7 @@ use borrow.Author.Needs.{needs}
 use lib.ListN.{length, drop, length-set}
 use lib.Seq.{sets}
 use Rattle.lines.specs.Printing.{hexOf}
-use Rattle.lines.specs.PrintLaws.{hex-next, hex-last, hex-whole}
+use Rattle.lines.specs.laws.PrintLaws.{hex-next, hex-last, hex-whole}
 use Rattle.lines.proofs.put_hex.Statement.{statement}
 use Rattle.lines.proofs.put_hex.Tie as tie
 

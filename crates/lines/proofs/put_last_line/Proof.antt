@@ -1,7 +1,6 @@
 use native.Mathlib.Omega.{arith}
 use Rattle.lines.specs.Printing.{lastLine}
-use Rattle.lines.specs.PrintLaws.{puts-next, length-text, length-decimal}
-use borrow.Author.Needs.{needs}
+use Rattle.lines.specs.laws.PrintLaws.{puts-next, length-text, length-decimal}
 use borrow.Author.Needs.{needs}
 use Rattle.lines.proofs.put_last_line.Statement.{statement}
 use Rattle.lines.proofs.put_last_line.Tie as tie

@@ -1,6 +1,5 @@
 use borrow.Author.Needs.{needs}
-use Rattle.lines.specs.PrintLaws.{puts-next}
-use borrow.Author.Needs.{needs}
+use Rattle.lines.specs.laws.PrintLaws.{puts-next}
 use Rattle.lines.proofs.put_letter.Statement.{statement}
 use Rattle.lines.proofs.put_letter.Tie as tie
 

@@ -1,7 +1,6 @@
 use native.Mathlib.Omega.{arith}
 use Rattle.lines.specs.Printing.{messageLine}
-use Rattle.lines.specs.PrintLaws.{puts-next, length-hex}
-use borrow.Author.Needs.{needs}
+use Rattle.lines.specs.laws.PrintLaws.{puts-next, length-hex}
 use borrow.Author.Needs.{needs}
 use Rattle.lines.proofs.put_message_line.Statement.{statement}
 use Rattle.lines.proofs.put_message_line.Tie as tie

@@ -1,6 +1,5 @@
 use native.Mathlib.Omega.{arith}
-use Rattle.lines.specs.PrintLaws.{puts-next, length-decimal}
-use borrow.Author.Needs.{needs}
+use Rattle.lines.specs.laws.PrintLaws.{puts-next, length-decimal}
 use borrow.Author.Needs.{needs}
 use Rattle.lines.proofs.put_next.Statement.{statement}
 use Rattle.lines.proofs.put_next.Tie as tie

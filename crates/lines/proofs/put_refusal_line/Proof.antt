@@ -1,7 +1,6 @@
 use native.Mathlib.Omega.{arith}
 use Rattle.lines.specs.Printing.{refusalLine}
-use Rattle.lines.specs.PrintLaws.{puts-next, length-decimal}
-use borrow.Author.Needs.{needs}
+use Rattle.lines.specs.laws.PrintLaws.{puts-next, length-decimal}
 use borrow.Author.Needs.{needs}
 use Rattle.lines.proofs.put_refusal_line.Statement.{statement}
 use Rattle.lines.proofs.put_refusal_line.Tie as tie

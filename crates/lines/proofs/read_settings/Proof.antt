@@ -1,7 +1,6 @@
 use mathlib.Core.Path.{_∙_}
-use Rattle.lines.specs.FieldLaws.{field-within}
-use Rattle.lines.specs.SettingsLaws.{settings-missing, settings-found}
-use borrow.Author.Needs.{needs}
+use Rattle.lines.specs.laws.FieldLaws.{field-within}
+use Rattle.lines.specs.laws.SettingsLaws.{settings-missing, settings-found}
 use borrow.Author.Needs.{needs}
 use Rattle.lines.proofs.read_settings.Statement.{statement}
 use Rattle.lines.proofs.read_settings.Tie as tie

@@ -1,7 +1,6 @@
 use mathlib.Core.Path.{_∙_}
-use Rattle.lines.specs.FieldLaws.{field-within}
-use Rattle.lines.specs.StringLaws.{string-missing, string-found}
-use borrow.Author.Needs.{needs}
+use Rattle.lines.specs.laws.FieldLaws.{field-within}
+use Rattle.lines.specs.laws.StringLaws.{string-missing, string-found}
 use borrow.Author.Needs.{needs}
 use Rattle.lines.proofs.read_string.Statement.{statement}
 use Rattle.lines.proofs.read_string.Tie as tie

@@ -3,9 +3,9 @@ use mathlib.Core.Path.{_≡_, refl, ap, _∙_}
 use borrow.Author.Needs.{needs}
 use lib.ListN.{length, drop}
 use Rattle.strings.specs.Bits.{writeBits}
-use Rattle.strings.specs.BitLaws.{length-setBit}
+use Rattle.strings.specs.laws.BitLaws.{length-setBit}
 use Rattle.lines.specs.StringLine.{bitsOf}
-use Rattle.lines.specs.StringLaws.{line-next, line-last}
+use Rattle.lines.specs.laws.StringLaws.{line-next, line-last}
 use Rattle.lines.proofs.write_line.Statement.{statement}
 use Rattle.lines.proofs.write_line.Tie as tie
 

@@ -1,6 +1,6 @@
 use mathlib.Core.Path.{sym, ap, _∙_}
 use Rattle.rebuilder.specs.RebuilderOutcome.{rooms}
-use Rattle.rebuilder.specs.RebuilderParts.{answerRoom}
+use Rattle.rebuilder.specs.code.RebuilderParts.{answerRoom}
 use borrow.Author.Needs.{needs}
 use Rattle.rebuilder.proofs.has_answer_room.Statement.{statement}
 use Rattle.rebuilder.proofs.has_answer_room.Tie as tie

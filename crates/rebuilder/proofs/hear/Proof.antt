@@ -1,8 +1,8 @@
 use mathlib.Core.Path.{sym, _∙_}
 use native.Mathlib.Omega.{arith}
 use borrow.Author.Tests.{not-true, not-false}
-use Rattle.protocol.specs.SoundParts.{sound-is}
-use Rattle.rebuilder.specs.RebuilderCallLaws.{due, awaits-hears, hears-short, hears-long, taken-said, refused-said}
+use Rattle.protocol.specs.laws.SoundParts.{sound-is}
+use Rattle.rebuilder.specs.laws.RebuilderCallLaws.{due, awaits-hears, hears-short, hears-long, taken-said, refused-said}
 use Rattle.rebuilder.proofs.Arrays.{pieces-held}
 use borrow.Author.Needs.{needs}
 use Rattle.rebuilder.proofs.hear.Statement.{statement}

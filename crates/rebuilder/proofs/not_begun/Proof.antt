@@ -1,4 +1,4 @@
-use Rattle.rebuilder.specs.RebuilderCallLaws.{not-begun-out}
+use Rattle.rebuilder.specs.laws.RebuilderCallLaws.{not-begun-out}
 use borrow.Author.Needs.{needs}
 use Rattle.rebuilder.proofs.not_begun.Statement.{statement}
 use Rattle.rebuilder.proofs.not_begun.Tie as tie

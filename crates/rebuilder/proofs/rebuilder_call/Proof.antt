@@ -1,9 +1,9 @@
 use mathlib.Core.Path.{refl, sym, _∙_}
 use borrow.Author.Tests.{not-true, not-false}
-use Rattle.states.specs.SoundLaws.{sound-plans}
-use Rattle.strings.specs.Tests.{test-is}
-use Rattle.rebuilder.specs.RebuilderCodeLaws.{none-planned, some-planned}
-use Rattle.rebuilder.specs.RebuilderCallLaws.{call-bad-string, call-unsound, call-awaits, copy-there, taken-said, refused-said}
+use Rattle.states.specs.laws.SoundLaws.{sound-plans}
+use Rattle.strings.specs.laws.Tests.{test-is}
+use Rattle.rebuilder.specs.laws.RebuilderCodeLaws.{none-planned, some-planned}
+use Rattle.rebuilder.specs.laws.RebuilderCallLaws.{call-bad-string, call-unsound, call-awaits, copy-there, taken-said, refused-said}
 use borrow.Author.Needs.{needs}
 use Rattle.rebuilder.proofs.rebuilder_call.Statement.{statement}
 use Rattle.rebuilder.proofs.rebuilder_call.Tie as tie

@@ -1,7 +1,7 @@
 use mathlib.Core.Path.{sym, _∙_}
 use native.Mathlib.Omega.{arith}
 use borrow.Author.Tests.{not-true, not-false}
-use Rattle.rebuilder.specs.RebuilderCallLaws.{start-refused, start-bad-setting, start-bad-string, start-no-room, start-small, start-fits, start-begun}
+use Rattle.rebuilder.specs.laws.RebuilderCallLaws.{start-refused, start-bad-setting, start-bad-string, start-no-room, start-small, start-fits, start-begun}
 use borrow.Author.Needs.{needs}
 use Rattle.rebuilder.proofs.rebuilder_start.Statement.{statement}
 use Rattle.rebuilder.proofs.rebuilder_start.Tie as tie

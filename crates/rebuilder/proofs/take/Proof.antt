@@ -1,6 +1,6 @@
 use mathlib.Core.Path.{refl}
 use native.Mathlib.Omega.{arith}
-use Rattle.rebuilder.specs.RebuilderCallLaws.{heard-size, heard-hash, heard-syndrome, heard-bits, bits-inside, bits-long, bits-said, read-said, enough-for, room-enough, room-bits, acting-small, whole-small, refused-said}
+use Rattle.rebuilder.specs.laws.RebuilderCallLaws.{heard-size, heard-hash, heard-syndrome, heard-bits, bits-inside, bits-long, bits-said, read-said, enough-for, room-enough, room-bits, acting-small, whole-small, refused-said}
 use borrow.Author.Needs.{needs}
 use Rattle.rebuilder.proofs.take.Statement.{statement}
 use Rattle.rebuilder.proofs.take.Tie as tie

@@ -5,7 +5,7 @@ use lib.ListN.{length, length-set}
 use lib.Seq.{sets}
 use borrow.Author.Needs.{needs}
 use Rattle.strings.specs.Bits.{cleared, zeroBytes}
-use Rattle.strings.specs.WriteLaws.{clear-next, clear-last}
+use Rattle.strings.specs.laws.WriteLaws.{clear-next, clear-last}
 use Rattle.strings.proofs.clear_bytes.Statement.{statement}
 use Rattle.strings.proofs.clear_bytes.Tie as tie
 

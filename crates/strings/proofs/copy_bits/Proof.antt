@@ -1,6 +1,6 @@
 use Prim.Native.Nat.{_-_, _/_, _%_}
 use native.Mathlib.Omega.{arith}
-use Rattle.strings.specs.ByteLaws.{copy-three}
+use Rattle.strings.specs.laws.ByteLaws.{copy-three}
 use borrow.Author.Needs.{needs}
 use Rattle.strings.proofs.copy_bits.Statement.{statement}
 use Rattle.strings.proofs.copy_bits.Tie as tie

@@ -4,9 +4,9 @@ use native.Mathlib.Omega.{arith}
 use lib.ListN.{length}
 use borrow.Author.Needs.{needs}
 use Rattle.strings.specs.Bits.{range, writeBits}
-use Rattle.strings.specs.BitLaws.{length-setBit}
-use Rattle.strings.specs.RangeLaws.{rest, rest-first, rest-last}
-use Rattle.strings.specs.WriteLaws.{copy-next, write-none}
+use Rattle.strings.specs.laws.BitLaws.{length-setBit}
+use Rattle.strings.specs.laws.RangeLaws.{rest, rest-first, rest-last}
+use Rattle.strings.specs.laws.WriteLaws.{copy-next, write-none}
 use Rattle.strings.proofs.copy_singly.Statement.{statement}
 use Rattle.strings.proofs.copy_singly.Tie as tie
 

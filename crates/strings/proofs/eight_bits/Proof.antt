@@ -1,5 +1,5 @@
 use Prim.Native.Nat.{_-_}
-use Rattle.strings.specs.ByteLaws.{eight-whole, eight-joined}
+use Rattle.strings.specs.laws.ByteLaws.{eight-whole, eight-joined}
 use borrow.Author.Needs.{needs}
 use Rattle.strings.proofs.eight_bits.Statement.{statement}
 use Rattle.strings.proofs.eight_bits.Tie as tie

@@ -3,8 +3,8 @@ use Prim.Native.Nat.{ℕ, _-_, _*_, _%_, _^_}
 use native.Mathlib.Omega.{arith}
 use lib.Pow.{pow-pos}
 use borrow.Author.Needs.{needs}
-use Rattle.strings.specs.BitLaws.{one-shl}
-use Rattle.strings.specs.RuleLaws.{rule-many, rule-length, rule-even, rule-odd}
+use Rattle.strings.specs.laws.BitLaws.{one-shl}
+use Rattle.strings.specs.laws.RuleLaws.{rule-many, rule-length, rule-even, rule-odd}
 use Rattle.strings.proofs.keeps_string_rule.Statement.{statement}
 use Rattle.strings.proofs.keeps_string_rule.Tie as tie
 

@@ -4,7 +4,7 @@ use Prim.Native.Nat.{_+_, _-_, _≤_}
 use native.Mathlib.Omega.{arith}
 use borrow.Author.Needs.{needs}
 use Rattle.strings.specs.Bits.{range, sameBits}
-use Rattle.strings.specs.RangeLaws.{rest, rest-first, rest-last, same-turn, same-none}
+use Rattle.strings.specs.laws.RangeLaws.{rest, rest-first, rest-last, same-turn, same-none}
 use Rattle.strings.proofs.same_bits.Statement.{statement}
 use Rattle.strings.proofs.same_bits.Tie as tie
 

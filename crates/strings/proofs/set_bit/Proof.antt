@@ -1,5 +1,5 @@
 use Prim.Native.Nat.{_-_}
-use Rattle.strings.specs.BitLaws.{set-turned}
+use Rattle.strings.specs.laws.BitLaws.{set-turned}
 use borrow.Author.Needs.{needs}
 use Rattle.strings.proofs.set_bit.Statement.{statement}
 use Rattle.strings.proofs.set_bit.Tie as tie

@@ -1,6 +1,6 @@
 use mathlib.Core.Path.{refl}
 use Rattle.cabi.specs.Layout.{fieldsOf}
-use Rattle.cabi.specs.LayoutLaws.{state-same}
+use Rattle.cabi.specs.laws.LayoutLaws.{state-same}
 use borrow.Author.Needs.{needs}
 use Rattle.cabi.proofs.layout.read_fields.Statement.{statement}
 use Rattle.cabi.proofs.layout.read_fields.Tie as tie

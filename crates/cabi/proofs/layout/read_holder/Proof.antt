@@ -1,5 +1,5 @@
 use Rattle.cabi.specs.Layout.{holderOf}
-use Rattle.cabi.specs.LayoutLaws.{holder-same}
+use Rattle.cabi.specs.laws.LayoutLaws.{holder-same}
 use borrow.Author.Needs.{needs}
 use Rattle.cabi.proofs.layout.read_holder.Statement.{statement}
 use Rattle.cabi.proofs.layout.read_holder.Tie as tie

@@ -1,5 +1,5 @@
 use Rattle.cabi.specs.Layout.{pieceAt}
-use Rattle.cabi.specs.LayoutLaws.{piece-same}
+use Rattle.cabi.specs.laws.LayoutLaws.{piece-same}
 use borrow.Author.Needs.{needs}
 use Rattle.cabi.proofs.layout.read_piece.Statement.{statement}
 use Rattle.cabi.proofs.layout.read_piece.Tie as tie

@@ -4,7 +4,7 @@ use Prim.Native.Nat.{_+_, _-_, _*_, _≤_}
 use native.Mathlib.Omega.{arith}
 use lib.Seq.{sets}
 use Rattle.cabi.specs.Layout.{piecesAt, rebuilderOf}
-use Rattle.cabi.specs.LayoutLaws.{withPieces, read-start, read-turn, read-end}
+use Rattle.cabi.specs.laws.LayoutLaws.{withPieces, read-start, read-turn, read-end}
 use Rattle.cabi.proofs.layout.read_rebuilder.Statement.{statement}
 use Rattle.cabi.proofs.layout.read_rebuilder.Tie as tie
 

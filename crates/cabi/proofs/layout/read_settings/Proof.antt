@@ -1,5 +1,5 @@
 use Rattle.cabi.specs.Layout.{fieldsOf}
-use Rattle.cabi.specs.LayoutLaws.{settings-same}
+use Rattle.cabi.specs.laws.LayoutLaws.{settings-same}
 use borrow.Author.Needs.{needs}
 use Rattle.cabi.proofs.layout.read_settings.Statement.{statement}
 use Rattle.cabi.proofs.layout.read_settings.Tie as tie

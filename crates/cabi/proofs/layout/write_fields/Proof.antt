@@ -1,4 +1,4 @@
-use Rattle.cabi.specs.LayoutLaws.{fields-stored}
+use Rattle.cabi.specs.laws.LayoutLaws.{fields-stored}
 use borrow.Author.Needs.{needs}
 use Rattle.cabi.proofs.layout.write_fields.Statement.{statement}
 use Rattle.cabi.proofs.layout.write_fields.Tie as tie

@@ -1,4 +1,4 @@
-use Rattle.cabi.specs.LayoutLaws.{holder-stored}
+use Rattle.cabi.specs.laws.LayoutLaws.{holder-stored}
 use borrow.Author.Needs.{needs}
 use Rattle.cabi.proofs.layout.write_holder.Statement.{statement}
 use Rattle.cabi.proofs.layout.write_holder.Tie as tie

@@ -5,7 +5,7 @@ use native.Mathlib.Omega.{arith}
 use lib.ListN.{length}
 use lib.Seq.{sets, length-sets}
 use Rattle.cabi.specs.Layout.{piecesBytes}
-use Rattle.cabi.specs.LayoutLaws.{pieces-turn, pieces-end}
+use Rattle.cabi.specs.laws.LayoutLaws.{pieces-turn, pieces-end}
 use Rattle.cabi.proofs.layout.write_pieces.Statement.{statement}
 use Rattle.cabi.proofs.layout.write_pieces.Tie as tie
 

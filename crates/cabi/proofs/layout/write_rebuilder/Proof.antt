@@ -1,4 +1,4 @@
-use Rattle.cabi.specs.LayoutLaws.{rebuilder-stored}
+use Rattle.cabi.specs.laws.LayoutLaws.{rebuilder-stored}
 use borrow.Author.Needs.{needs}
 use Rattle.cabi.proofs.layout.write_rebuilder.Statement.{statement}
 use Rattle.cabi.proofs.layout.write_rebuilder.Tie as tie

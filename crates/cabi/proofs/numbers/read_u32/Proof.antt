@@ -1,4 +1,4 @@
-use Rattle.cabi.specs.Bytes32Laws.{number-sum}
+use Rattle.cabi.specs.laws.Bytes32Laws.{number-sum}
 use borrow.Author.Needs.{needs}
 use Rattle.cabi.proofs.numbers.read_u32.Statement.{statement}
 use Rattle.cabi.proofs.numbers.read_u32.Tie as tie

@@ -1,4 +1,4 @@
-use Rattle.cabi.specs.LayoutLaws.{four-stored}
+use Rattle.cabi.specs.laws.LayoutLaws.{four-stored}
 use borrow.Author.Needs.{needs}
 use Rattle.cabi.proofs.numbers.write_four.Statement.{statement}
 use Rattle.cabi.proofs.numbers.write_four.Tie as tie

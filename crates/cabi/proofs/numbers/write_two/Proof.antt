@@ -1,4 +1,4 @@
-use Rattle.cabi.specs.LayoutLaws.{two-stored}
+use Rattle.cabi.specs.laws.LayoutLaws.{two-stored}
 use borrow.Author.Needs.{needs}
 use Rattle.cabi.proofs.numbers.write_two.Statement.{statement}
 use Rattle.cabi.proofs.numbers.write_two.Tie as tie

@@ -1,6 +1,6 @@
 use native.Mathlib.Omega.{arith}
 use lib.ListN.{length-set}
-use Rattle.cabi.specs.Bytes32Laws.{four-stores}
+use Rattle.cabi.specs.laws.Bytes32Laws.{four-stores}
 use borrow.Author.Needs.{needs}
 use Rattle.cabi.proofs.numbers.write_u32.Statement.{statement}
 use Rattle.cabi.proofs.numbers.write_u32.Tie as tie

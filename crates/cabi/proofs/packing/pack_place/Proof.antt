@@ -1,7 +1,7 @@
 use mathlib.Core.Path.{refl, _∙_}
 use native.Mathlib.Omega.{arith}
 use Rattle.cabi.specs.Packing.{packed}
-use Rattle.cabi.specs.PackingLaws.{place-small}
+use Rattle.cabi.specs.laws.PackingLaws.{place-small}
 use borrow.Author.Needs.{needs}
 use Rattle.cabi.proofs.packing.pack_place.Statement.{statement}
 use Rattle.cabi.proofs.packing.pack_place.Tie as tie

@@ -1,5 +1,5 @@
 use native.Mathlib.Omega.{arith}
-use Rattle.cabi.specs.SheetLaws.{need-add, need-one, change-add, one-row-left}
+use Rattle.cabi.specs.laws.SheetLaws.{need-add, need-one, change-add, one-row-left}
 use borrow.Author.Needs.{needs}
 use Rattle.cabi.proofs.sheet.apply_change.Statement.{statement}
 use Rattle.cabi.proofs.sheet.apply_change.Tie as tie

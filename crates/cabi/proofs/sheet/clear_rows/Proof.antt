@@ -1,4 +1,4 @@
-use Rattle.cabi.specs.SheetLaws.{clear-none, clear-some}
+use Rattle.cabi.specs.laws.SheetLaws.{clear-none, clear-some}
 use borrow.Author.Needs.{needs}
 use Rattle.cabi.proofs.sheet.clear_rows.Statement.{statement}
 use Rattle.cabi.proofs.sheet.clear_rows.Tie as tie

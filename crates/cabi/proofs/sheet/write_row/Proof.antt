@@ -1,4 +1,4 @@
-use Rattle.cabi.specs.SheetLaws.{row-written}
+use Rattle.cabi.specs.laws.SheetLaws.{row-written}
 use borrow.Author.Needs.{needs}
 use Rattle.cabi.proofs.sheet.write_row.Statement.{statement}
 use Rattle.cabi.proofs.sheet.write_row.Tie as tie

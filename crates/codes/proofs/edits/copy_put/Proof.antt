@@ -1,6 +1,6 @@
 -- `codes::copy_put` meets its contract. Assumes nothing.
 use Prim.Native.Nat.{_-_}
-use Rattle.codes.specs.EditLaws.{put-copied}
+use Rattle.codes.specs.laws.EditLaws.{put-copied}
 use borrow.Author.Needs.{needs}
 use Rattle.codes.proofs.edits.copy_put.Statement.{statement}
 use Rattle.codes.proofs.edits.copy_put.Tie as tie

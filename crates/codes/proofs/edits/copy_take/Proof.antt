@@ -1,6 +1,6 @@
 -- `codes::copy_take` meets its contract. Assumes nothing.
 use Prim.Native.Nat.{_-_}
-use Rattle.codes.specs.EditLaws.{take-copied}
+use Rattle.codes.specs.laws.EditLaws.{take-copied}
 use borrow.Author.Needs.{needs}
 use Rattle.codes.proofs.edits.copy_take.Statement.{statement}
 use Rattle.codes.proofs.edits.copy_take.Tie as tie

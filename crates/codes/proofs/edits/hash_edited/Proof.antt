@@ -3,7 +3,7 @@ use mathlib.Core.Path.{ap, _∙_}
 use native.Mathlib.Omega.{arith}
 use Rattle.strings.specs.Bits.{range}
 use Rattle.codes.specs.Hash.{hash}
-use Rattle.codes.specs.EditLaws.{as-keep, as-put, as-take, edited-keep, edited-as}
+use Rattle.codes.specs.laws.EditLaws.{as-keep, as-put, as-take, edited-keep, edited-as}
 use borrow.Author.Needs.{needs}
 use Rattle.codes.proofs.edits.hash_edited.Statement.{statement}
 use Rattle.codes.proofs.edits.hash_edited.Tie as tie

@@ -1,7 +1,7 @@
 -- `codes::hash_put` meets its contract. Assumes nothing.
 use mathlib.Core.Path.{_∙_}
 use Prim.Native.Nat.{_-_}
-use Rattle.codes.specs.EditLaws.{put-hashed}
+use Rattle.codes.specs.laws.EditLaws.{put-hashed}
 use borrow.Author.Needs.{needs}
 use Rattle.codes.proofs.edits.hash_put.Statement.{statement}
 use Rattle.codes.proofs.edits.hash_put.Tie as tie

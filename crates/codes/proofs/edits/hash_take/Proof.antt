@@ -1,7 +1,7 @@
 -- `codes::hash_take` meets its contract. Assumes nothing.
 use mathlib.Core.Path.{_∙_}
 use Prim.Native.Nat.{_-_}
-use Rattle.codes.specs.EditLaws.{take-hashed}
+use Rattle.codes.specs.laws.EditLaws.{take-hashed}
 use borrow.Author.Needs.{needs}
 use Rattle.codes.proofs.edits.hash_take.Statement.{statement}
 use Rattle.codes.proofs.edits.hash_take.Tie as tie

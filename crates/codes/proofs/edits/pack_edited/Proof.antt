@@ -3,9 +3,9 @@ use mathlib.Core.Path.{ap, _∙_}
 use mathlib.Core.List.{List}
 use Prim.Native.Nat.{ℕ}
 use Rattle.strings.specs.Bits.{range, writeBits}
-use Rattle.strings.specs.RangeLaws.{range-length}
-use Rattle.codes.specs.Edits.{edited}
-use Rattle.codes.specs.EditLaws.{edited-length, packed-into}
+use Rattle.strings.specs.laws.RangeLaws.{range-length}
+use Rattle.codes.specs.code.Edits.{edited}
+use Rattle.codes.specs.laws.EditLaws.{edited-length, packed-into}
 use borrow.Author.Needs.{needs}
 use Rattle.codes.proofs.edits.pack_edited.Statement.{statement}
 use Rattle.codes.proofs.edits.pack_edited.Tie as tie

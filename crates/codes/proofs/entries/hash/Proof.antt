@@ -4,7 +4,7 @@ use mathlib.Core.Bool.{true}
 use borrow.Author.Tests.{not-true, not-false}
 use Rattle.strings.specs.StringRule.{stringRule}
 use Rattle.codes.specs.Entries.{hashSettings}
-use Rattle.codes.specs.EntryLaws.{whole-part, hash-settings-width, hash-bad-setting, hash-bad-string, hash-value}
+use Rattle.codes.specs.laws.EntryLaws.{whole-part, hash-settings-width, hash-bad-setting, hash-bad-string, hash-value}
 use borrow.Author.Needs.{needs}
 use Rattle.codes.proofs.entries.hash.Statement.{statement}
 use Rattle.codes.proofs.entries.hash.Tie as tie

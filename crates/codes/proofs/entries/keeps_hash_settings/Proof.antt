@@ -1,5 +1,5 @@
 -- `codes::keeps_hash_settings` meets its contract. Assumes nothing.
-use Rattle.codes.specs.EntryLaws.{hash-settings-low, hash-settings-high, hash-settings-key}
+use Rattle.codes.specs.laws.EntryLaws.{hash-settings-low, hash-settings-high, hash-settings-key}
 use Rattle.codes.proofs.entries.keeps_hash_settings.Statement.{statement}
 use Rattle.codes.proofs.entries.keeps_hash_settings.Tie as tie
 

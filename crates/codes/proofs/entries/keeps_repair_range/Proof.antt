@@ -1,5 +1,5 @@
 -- `codes::keeps_repair_range` meets its contract. Assumes nothing.
-use Rattle.codes.specs.EntryLaws.{repair-range-long, repair-range-above, repair-range-more, repair-range-less}
+use Rattle.codes.specs.laws.EntryLaws.{repair-range-long, repair-range-above, repair-range-more, repair-range-less}
 use borrow.Author.Needs.{needs}
 use Rattle.codes.proofs.entries.keeps_repair_range.Statement.{statement}
 use Rattle.codes.proofs.entries.keeps_repair_range.Tie as tie

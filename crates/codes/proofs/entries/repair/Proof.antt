@@ -7,14 +7,14 @@ use borrow.Author.Tests.{not-true, not-false}
 use native.Mathlib.Omega.{arith}
 use lib.ListN.{length}
 use Rattle.strings.specs.Bits.{range}
-use Rattle.strings.specs.RangeLaws.{range-length}
+use Rattle.strings.specs.laws.RangeLaws.{range-length}
 use Rattle.strings.specs.StringRule.{stringRule}
 use Rattle.codes.specs.declared.entries.RepairAnswer.the-variants.{Done}
 use Rattle.codes.specs.Repair.{repairTo}
-use Rattle.codes.specs.Edits.{edited}
+use Rattle.codes.specs.code.Edits.{edited}
 use Rattle.codes.specs.Entries.{value, repairRange, repairCall, leaves, saidRepair}
-use Rattle.codes.specs.EditLaws.{repair-fits, repair-found, repair-nothing}
-use Rattle.codes.specs.EntryLaws.{whole-part, string-few, repair-range-is, repair-bad-string, repair-out-of-range, repair-no-room, repair-value}
+use Rattle.codes.specs.laws.EditLaws.{repair-fits, repair-found, repair-nothing}
+use Rattle.codes.specs.laws.EntryLaws.{whole-part, string-few, repair-range-is, repair-bad-string, repair-out-of-range, repair-no-room, repair-value}
 use borrow.Author.Needs.{needs}
 use Rattle.codes.proofs.entries.repair.Statement.{statement}
 use Rattle.codes.proofs.entries.repair.Tie as tie

@@ -3,9 +3,9 @@ use mathlib.Core.Path.{sym, _∙_}
 use borrow.Author.Tests.{not-true, not-false}
 use native.Mathlib.Omega.{arith}
 use Rattle.strings.specs.Bits.{range}
-use Rattle.strings.specs.RangeLaws.{range-length}
-use Rattle.codes.specs.SyndromeLaws.{syndrome-most}
-use Rattle.codes.specs.EntryLaws.{whole-part, string-few, syndrome-bad-string, syndrome-value}
+use Rattle.strings.specs.laws.RangeLaws.{range-length}
+use Rattle.codes.specs.laws.SyndromeLaws.{syndrome-most}
+use Rattle.codes.specs.laws.EntryLaws.{whole-part, string-few, syndrome-bad-string, syndrome-value}
 use borrow.Author.Needs.{needs}
 use Rattle.codes.proofs.entries.syndrome.Statement.{statement}
 use Rattle.codes.proofs.entries.syndrome.Tie as tie

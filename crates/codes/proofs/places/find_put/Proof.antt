@@ -1,8 +1,8 @@
 -- `codes::find_put` meets its contract. Assumes nothing.
 use Prim.Native.Nat.{_-_}
 use Rattle.strings.specs.Bits.{range}
-use Rattle.strings.specs.RangeLaws.{range-length}
-use Rattle.codes.specs.EditLaws.{put-repair-above, put-repair-found}
+use Rattle.strings.specs.laws.RangeLaws.{range-length}
+use Rattle.codes.specs.laws.EditLaws.{put-repair-above, put-repair-found}
 use borrow.Author.Needs.{needs}
 use Rattle.codes.proofs.places.find_put.Statement.{statement}
 use Rattle.codes.proofs.places.find_put.Tie as tie

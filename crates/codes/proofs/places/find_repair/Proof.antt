@@ -1,8 +1,8 @@
 -- `codes::find_repair` meets its contract. Assumes nothing.
 use Prim.Native.Nat.{_-_}
 use Rattle.strings.specs.Bits.{range}
-use Rattle.strings.specs.RangeLaws.{range-length}
-use Rattle.codes.specs.EditLaws.{repair-edit-put, repair-edit-take}
+use Rattle.strings.specs.laws.RangeLaws.{range-length}
+use Rattle.codes.specs.laws.EditLaws.{repair-edit-put, repair-edit-take}
 use borrow.Author.Needs.{needs}
 use Rattle.codes.proofs.places.find_repair.Statement.{statement}
 use Rattle.codes.proofs.places.find_repair.Tie as tie

@@ -1,8 +1,8 @@
 -- `codes::find_take` meets its contract. Assumes nothing.
 use Prim.Native.Nat.{_-_}
 use Rattle.strings.specs.Bits.{range}
-use Rattle.strings.specs.RangeLaws.{range-length}
-use Rattle.codes.specs.EditLaws.{take-repair-found, take-repair-nothing}
+use Rattle.strings.specs.laws.RangeLaws.{range-length}
+use Rattle.codes.specs.laws.EditLaws.{take-repair-found, take-repair-nothing}
 use borrow.Author.Needs.{needs}
 use Rattle.codes.proofs.places.find_take.Statement.{statement}
 use Rattle.codes.proofs.places.find_take.Tie as tie

@@ -2,7 +2,7 @@
 use mathlib.Core.Path.{_≡_, sym}
 use mathlib.Core.Bool.{Bool, true, false, cond}
 use mathlib.Core.Logic.{_⊎_, inl, inr, ⊎-elim}
-use Rattle.strings.specs.Tests.{true-false}
+use Rattle.strings.specs.laws.Tests.{true-false}
 use borrow.Author.Tests.{not-true, not-false}
 use Rattle.codes.proofs.places.for_bit.Statement.{statement}
 use Rattle.codes.proofs.places.for_bit.Tie as tie

@@ -4,10 +4,10 @@ use mathlib.Core.Bool.{not}
 use Prim.Native.Nat.{_+_, _-_, _≤_}
 use native.Mathlib.Omega.{arith}
 use Rattle.strings.specs.Bits.{range}
-use Rattle.strings.specs.RangeLaws.{rest, rest-first, rest-last, rest-is}
-use Rattle.codes.specs.Place.{onePlace}
-use Rattle.codes.specs.SyndromeLaws.{bit-most}
-use Rattle.codes.specs.PlaceLaws.{one-place-stop, one-place-empty, one-place-next}
+use Rattle.strings.specs.laws.RangeLaws.{rest, rest-first, rest-last, rest-is}
+use Rattle.codes.specs.code.Place.{onePlace}
+use Rattle.codes.specs.laws.SyndromeLaws.{bit-most}
+use Rattle.codes.specs.laws.PlaceLaws.{one-place-stop, one-place-empty, one-place-next}
 use borrow.Author.Needs.{needs}
 use Rattle.codes.proofs.places.one_place.Statement.{statement}
 use Rattle.codes.proofs.places.one_place.Tie as tie

@@ -2,10 +2,10 @@
 use mathlib.Core.Path.{_∙_}
 use Prim.Native.Nat.{_-_}
 use Rattle.strings.specs.Bits.{range}
-use Rattle.strings.specs.RangeLaws.{range-length}
-use Rattle.codes.specs.SyndromeLaws.{grows-whole}
-use Rattle.codes.specs.PlaceLaws.{lack-of}
-use Rattle.codes.specs.EditLaws.{put-edit-zero, put-edit-one}
+use Rattle.strings.specs.laws.RangeLaws.{range-length}
+use Rattle.codes.specs.laws.SyndromeLaws.{grows-whole}
+use Rattle.codes.specs.laws.PlaceLaws.{lack-of}
+use Rattle.codes.specs.laws.EditLaws.{put-edit-zero, put-edit-one}
 use borrow.Author.Needs.{needs}
 use Rattle.codes.proofs.places.put_edit.Statement.{statement}
 use Rattle.codes.proofs.places.put_edit.Tie as tie

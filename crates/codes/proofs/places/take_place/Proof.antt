@@ -4,12 +4,12 @@ use Prim.Native.Nat.{_-_, _≤_}
 use native.Mathlib.Omega.{arith}
 use lib.Dec.{eqb}
 use Rattle.strings.specs.Bits.{range}
-use Rattle.strings.specs.RangeLaws.{rest, rest-first, rest-is, range-length}
+use Rattle.strings.specs.laws.RangeLaws.{rest, rest-first, rest-is, range-length}
 use Rattle.codes.specs.Syndrome.{syndrome}
 use Rattle.codes.specs.Repair.{without}
-use Rattle.codes.specs.Place.{ones, firstTake, takePlace}
-use Rattle.codes.specs.SyndromeLaws.{ones-next, grows-whole}
-use Rattle.codes.specs.PlaceLaws.{ones-most, take-test, first-take-here, first-take-next, first-take-end, take-place-is, take-place-above}
+use Rattle.codes.specs.code.Place.{ones, firstTake, takePlace}
+use Rattle.codes.specs.laws.SyndromeLaws.{ones-next, grows-whole}
+use Rattle.codes.specs.laws.PlaceLaws.{ones-most, take-test, first-take-here, first-take-next, first-take-end, take-place-is, take-place-above}
 use borrow.Author.Tests.{eqb-true, eqb-false}
 use borrow.Author.Needs.{needs}
 use Rattle.codes.proofs.places.take_place.Statement.{statement}

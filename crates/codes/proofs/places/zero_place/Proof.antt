@@ -3,10 +3,10 @@ use mathlib.Core.Path.{_≡_, refl, ap}
 use Prim.Native.Nat.{_+_, _-_, _≤_}
 use native.Mathlib.Omega.{arith}
 use Rattle.strings.specs.Bits.{range}
-use Rattle.strings.specs.RangeLaws.{rest, rest-first, rest-last, rest-is}
-use Rattle.codes.specs.Place.{ones, zeroPlace}
-use Rattle.codes.specs.SyndromeLaws.{ones-next}
-use Rattle.codes.specs.PlaceLaws.{zero-place-stop, zero-place-next}
+use Rattle.strings.specs.laws.RangeLaws.{rest, rest-first, rest-last, rest-is}
+use Rattle.codes.specs.code.Place.{ones, zeroPlace}
+use Rattle.codes.specs.laws.SyndromeLaws.{ones-next}
+use Rattle.codes.specs.laws.PlaceLaws.{zero-place-stop, zero-place-next}
 use borrow.Author.Needs.{needs}
 use Rattle.codes.proofs.places.zero_place.Statement.{statement}
 use Rattle.codes.proofs.places.zero_place.Tie as tie

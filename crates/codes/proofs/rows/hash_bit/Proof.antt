@@ -2,7 +2,7 @@
 use mathlib.Core.Path.{sym, ap, _∙_}
 use mathlib.Core.Bool.{Bool, cond}
 use lib.Bits.{bitXor, xor-zero-r}
-use Rattle.codes.specs.HashLaws.{went-bit}
+use Rattle.codes.specs.laws.HashLaws.{went-bit}
 use borrow.Author.Needs.{needs}
 use Rattle.codes.proofs.rows.hash_bit.Statement.{statement}
 use Rattle.codes.proofs.rows.hash_bit.Tie as tie

@@ -1,5 +1,5 @@
 -- `codes::hash_byte` meets its contract. Assumes nothing.
-use Rattle.codes.specs.HashLaws.{went-on}
+use Rattle.codes.specs.laws.HashLaws.{went-on}
 use borrow.Author.Needs.{needs}
 use Rattle.codes.proofs.rows.hash_byte.Statement.{statement}
 use Rattle.codes.proofs.rows.hash_byte.Tie as tie

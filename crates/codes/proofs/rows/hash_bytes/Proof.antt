@@ -4,10 +4,10 @@ use native.Mathlib.Omega.{arith}
 use lib.ListN.{length}
 use lib.Bits.{bitXor}
 use Rattle.strings.specs.Bits.{range, byteBits}
-use Rattle.strings.specs.ByteLaws.{eight-first, eight-next, eight-last}
+use Rattle.strings.specs.laws.ByteLaws.{eight-first, eight-next, eight-last}
 use Rattle.codes.specs.Hash.{row as rowOf}
-use Rattle.codes.specs.HashForms.{wholeHash, Went}
-use Rattle.codes.specs.HashLaws.{went-first, went-last, went-next}
+use Rattle.codes.specs.code.HashForms.{wholeHash, Went}
+use Rattle.codes.specs.laws.HashLaws.{went-first, went-last, went-next}
 use borrow.Author.Needs.{needs}
 use Rattle.codes.proofs.rows.hash_bytes.Statement.{statement}
 use Rattle.codes.proofs.rows.hash_bytes.Tie as tie

@@ -1,6 +1,6 @@
 -- `codes::hash_four` meets its contract. Assumes nothing.
 use mathlib.Core.List.{[], _∷_}
-use Rattle.codes.specs.HashLaws.{went-on}
+use Rattle.codes.specs.laws.HashLaws.{went-on}
 use borrow.Author.Needs.{needs}
 use Rattle.codes.proofs.rows.hash_four.Statement.{statement}
 use Rattle.codes.proofs.rows.hash_four.Tie as tie

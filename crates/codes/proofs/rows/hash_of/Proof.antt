@@ -1,7 +1,7 @@
 -- `codes::hash_of` meets its contract. Assumes nothing.
 use mathlib.Core.Path.{_∙_}
 use Rattle.strings.specs.Bits.{range}
-use Rattle.codes.specs.HashLaws.{went-cut}
+use Rattle.codes.specs.laws.HashLaws.{went-cut}
 use borrow.Author.Needs.{needs}
 use Rattle.codes.proofs.rows.hash_of.Statement.{statement}
 use Rattle.codes.proofs.rows.hash_of.Tie as tie

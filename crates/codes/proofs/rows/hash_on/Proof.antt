@@ -1,7 +1,7 @@
 -- `codes::hash_on` meets its contract. Assumes nothing.
 use Prim.Native.Nat.{_-_}
-use Rattle.strings.specs.ByteLaws.{eight-rest}
-use Rattle.codes.specs.HashLaws.{went-on, went-as}
+use Rattle.strings.specs.laws.ByteLaws.{eight-rest}
+use Rattle.codes.specs.laws.HashLaws.{went-on, went-as}
 use borrow.Author.Needs.{needs}
 use Rattle.codes.proofs.rows.hash_on.Statement.{statement}
 use Rattle.codes.proofs.rows.hash_on.Tie as tie

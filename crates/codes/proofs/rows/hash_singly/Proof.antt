@@ -6,10 +6,10 @@ use native.Mathlib.Omega.{arith}
 use lib.ListN.{length}
 use lib.Bits.{bitXor}
 use Rattle.strings.specs.Bits.{range}
-use Rattle.strings.specs.RangeLaws.{rest, rest-first, rest-last, rest-is}
+use Rattle.strings.specs.laws.RangeLaws.{rest, rest-first, rest-last, rest-is}
 use Rattle.codes.specs.Hash.{row as rowOf}
-use Rattle.codes.specs.HashForms.{wholeHash, Went}
-use Rattle.codes.specs.HashLaws.{went-first, went-last, went-next}
+use Rattle.codes.specs.code.HashForms.{wholeHash, Went}
+use Rattle.codes.specs.laws.HashLaws.{went-first, went-last, went-next}
 use borrow.Author.Needs.{needs}
 use Rattle.codes.proofs.rows.hash_singly.Statement.{statement}
 use Rattle.codes.proofs.rows.hash_singly.Tie as tie

@@ -1,7 +1,7 @@
 -- `codes::low_bits` meets its contract: in 64 bits 1 shifted left by h, up to 32, is 2 ^ h. Assumes nothing.
 use native.Mathlib.Nat.{mod-le, lt-of-le-of-lt}
 use lib.Pow.{pow-pos}
-use Rattle.codes.specs.HashLaws.{one-shifted}
+use Rattle.codes.specs.laws.HashLaws.{one-shifted}
 use borrow.Author.Needs.{needs}
 use Rattle.codes.proofs.rows.low_bits.Statement.{statement}
 use Rattle.codes.proofs.rows.low_bits.Tie as tie

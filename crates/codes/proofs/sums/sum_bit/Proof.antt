@@ -1,6 +1,6 @@
 -- `codes::sum_bit` meets its contract. Assumes nothing.
 use native.Mathlib.Omega.{arith}
-use Rattle.codes.specs.SyndromeLaws.{bit-most, grows-bit}
+use Rattle.codes.specs.laws.SyndromeLaws.{bit-most, grows-bit}
 use borrow.Author.Needs.{needs}
 use Rattle.codes.proofs.sums.sum_bit.Statement.{statement}
 use Rattle.codes.proofs.sums.sum_bit.Tie as tie

@@ -1,6 +1,6 @@
 -- `codes::sum_byte` meets its contract. Assumes nothing.
 use native.Mathlib.Omega.{arith}
-use Rattle.codes.specs.SyndromeLaws.{grows-on}
+use Rattle.codes.specs.laws.SyndromeLaws.{grows-on}
 use borrow.Author.Needs.{needs}
 use Rattle.codes.proofs.sums.sum_byte.Statement.{statement}
 use Rattle.codes.proofs.sums.sum_byte.Tie as tie

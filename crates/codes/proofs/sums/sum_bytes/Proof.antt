@@ -4,9 +4,9 @@ use Prim.Native.Nat.{ℕ, _+_, _-_, _*_, _≤_}
 use native.Mathlib.Nat.{le-refl}
 use native.Mathlib.Omega.{arith}
 use Rattle.strings.specs.Bits.{range}
-use Rattle.strings.specs.ByteLaws.{eight-first, eight-last}
-use Rattle.codes.specs.Place.{Grows}
-use Rattle.codes.specs.SyndromeLaws.{grows-none, grows-as, grows-byte}
+use Rattle.strings.specs.laws.ByteLaws.{eight-first, eight-last}
+use Rattle.codes.specs.code.Place.{Grows}
+use Rattle.codes.specs.laws.SyndromeLaws.{grows-none, grows-as, grows-byte}
 use borrow.Author.Needs.{needs}
 use Rattle.codes.proofs.sums.sum_bytes.Statement.{statement}
 use Rattle.codes.proofs.sums.sum_bytes.Tie as tie

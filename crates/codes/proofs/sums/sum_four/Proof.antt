@@ -1,7 +1,7 @@
 -- `codes::sum_four` meets its contract. Assumes nothing.
 use mathlib.Core.List.{[], _∷_}
 use native.Mathlib.Omega.{arith}
-use Rattle.codes.specs.SyndromeLaws.{grows-on}
+use Rattle.codes.specs.laws.SyndromeLaws.{grows-on}
 use borrow.Author.Needs.{needs}
 use Rattle.codes.proofs.sums.sum_four.Statement.{statement}
 use Rattle.codes.proofs.sums.sum_four.Tie as tie

@@ -3,9 +3,9 @@ use mathlib.Core.Path.{_≡_, ap, _∙_}
 use Prim.Native.Nat.{_+_, _-_, _*_, _≤_}
 use native.Mathlib.Nat.{le-refl}
 use native.Mathlib.Omega.{arith}
-use Rattle.strings.specs.RangeLaws.{rest, rest-first, rest-last}
-use Rattle.codes.specs.Place.{Grows}
-use Rattle.codes.specs.SyndromeLaws.{grows-none, grows-as, grows-single}
+use Rattle.strings.specs.laws.RangeLaws.{rest, rest-first, rest-last}
+use Rattle.codes.specs.code.Place.{Grows}
+use Rattle.codes.specs.laws.SyndromeLaws.{grows-none, grows-as, grows-single}
 use borrow.Author.Needs.{needs}
 use Rattle.codes.proofs.sums.sum_singly.Statement.{statement}
 use Rattle.codes.proofs.sums.sum_singly.Tie as tie

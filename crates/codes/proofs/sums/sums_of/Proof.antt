@@ -1,7 +1,7 @@
 -- `codes::sums_of` meets its contract. Assumes nothing.
 use Prim.Native.Nat.{_-_}
-use Rattle.strings.specs.ByteLaws.{eight-rest}
-use Rattle.codes.specs.SyndromeLaws.{grows-on, grows-as}
+use Rattle.strings.specs.laws.ByteLaws.{eight-rest}
+use Rattle.codes.specs.laws.SyndromeLaws.{grows-on, grows-as}
 use borrow.Author.Needs.{needs}
 use Rattle.codes.proofs.sums.sums_of.Statement.{statement}
 use Rattle.codes.proofs.sums.sums_of.Tie as tie

@@ -1,8 +1,8 @@
 -- `codes::syndrome_of` meets its contract. Assumes nothing.
 use Prim.Native.Nat.{_-_}
 use Rattle.strings.specs.Bits.{range}
-use Rattle.strings.specs.RangeLaws.{range-length}
-use Rattle.codes.specs.SyndromeLaws.{syndrome-is}
+use Rattle.strings.specs.laws.RangeLaws.{range-length}
+use Rattle.codes.specs.laws.SyndromeLaws.{syndrome-is}
 use borrow.Author.Needs.{needs}
 use Rattle.codes.proofs.sums.syndrome_of.Statement.{statement}
 use Rattle.codes.proofs.sums.syndrome_of.Tie as tie

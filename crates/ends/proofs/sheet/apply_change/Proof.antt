@@ -46,12 +46,12 @@ use Rattle.protocol.specs.declared.Row.{Row}
 use Rattle.protocol.specs.declared.SheetChange.{SheetChange}
 use Rattle.protocol.specs.declared.SheetChange.the-variants.{NoRow, AddRow, OneRow}
 use Rattle.protocol.specs.RebuilderCall.{sheetAfter}
-use Rattle.protocol.specs.SheetRoom.{rowsNeeded}
+use Rattle.protocol.specs.laws.SheetRoom.{rowsNeeded}
 use Rattle.protocol.proofs.Row as T
 use Rattle.protocol.proofs.Row.Laws as T′
 use Rattle.protocol.proofs.SheetChange as E
 use Rattle.protocol.proofs.SheetChange.Laws as E′
-use Rattle.ends.specs.SheetCallLaws.{length-after}
+use Rattle.ends.specs.laws.SheetCallLaws.{length-after}
 use Rattle.ends.proofs.LentRows.{WriteRow, ClearRows, write-row-called, write-row-called-last, clear-rows-called-last}
 use Rattle.ends.proofs.Lending.{sheet, Sheet}
 use Rattle.ends.proofs.sheet.write_row.Symbol as write-row-def

@@ -54,7 +54,7 @@ use Rattle.protocol.specs.declared.Row.{Row}
 use Rattle.protocol.specs.RebuilderCall.{noRow}
 use Rattle.protocol.proofs.Row as T
 use Rattle.protocol.proofs.Row.Laws as T′
-use Rattle.ends.specs.SheetCallLaws.{ClearedTo, clear-turn, clear-end}
+use Rattle.ends.specs.laws.SheetCallLaws.{ClearedTo, clear-turn, clear-end}
 use Rattle.ends.proofs.LentRows.{WriteRow, write-row-called}
 use Rattle.ends.proofs.Lending.{sheet, Sheet}
 use Rattle.ends.proofs.sheet.no_row as no-row

@@ -46,7 +46,7 @@ use Rattle.protocol.specs.declared.Row.{Row}
 use Rattle.protocol.specs.declared.Rebuilder.{Rebuilder}
 use Rattle.protocol.specs.declared.SheetChange.{SheetChange}
 use Rattle.protocol.specs.RebuilderCall.{rebuilderCall, sheetAfter}
-use Rattle.protocol.specs.SheetRoom.{rowsNeeded}
+use Rattle.protocol.specs.laws.SheetRoom.{rowsNeeded}
 use Rattle.protocol.proofs.Row as T
 use Rattle.protocol.proofs.Rebuilder as R
 use Rattle.protocol.proofs.Rebuilder.Laws as R′
@@ -54,7 +54,7 @@ use Rattle.protocol.proofs.SheetChange as E
 use Rattle.protocol.proofs.SheetChange.Laws as E′
 use Rattle.rebuilder.specs.declared.RebuilderOut.{RebuilderOut}
 use Rattle.rebuilder.specs.RebuilderOutcome.{saidRebuilder, leavesRebuilder, rooms}
-use Rattle.ends.specs.SheetCallLaws.{change-fits, left-on-sheet, length-after}
+use Rattle.ends.specs.laws.SheetCallLaws.{change-fits, left-on-sheet, length-after}
 use Rattle.rebuilder.proofs.RebuilderOut as O
 use Rattle.rebuilder.proofs.RebuilderOut.Laws as O′
 use Rattle.rebuilder.proofs.rebuilder_call as core

@@ -1,6 +1,6 @@
 use mathlib.Core.Path.{sym, _∙_}
-use Rattle.messages.specs.NumberLaws.{number-inside}
-use Rattle.messages.specs.AnswerLaws.{answer-none, answer-other, answer-size-at, answer-hash-at, answer-syndrome-at, answer-bits-at}
+use Rattle.messages.specs.laws.NumberLaws.{number-inside}
+use Rattle.messages.specs.laws.AnswerLaws.{answer-none, answer-other, answer-size-at, answer-hash-at, answer-syndrome-at, answer-bits-at}
 use borrow.Author.Needs.{needs}
 use Rattle.messages.proofs.answers.read_answer.Statement.{statement}
 use Rattle.messages.proofs.answers.read_answer.Tie as tie

@@ -1,5 +1,5 @@
 use borrow.Author.Tests.{not-true, not-false}
-use Rattle.messages.specs.AnswerLaws.{bits-cut, bits-left, bits-spare, bits-whole}
+use Rattle.messages.specs.laws.AnswerLaws.{bits-cut, bits-left, bits-spare, bits-whole}
 use borrow.Author.Needs.{needs}
 use Rattle.messages.proofs.answers.read_bits.Statement.{statement}
 use Rattle.messages.proofs.answers.read_bits.Tie as tie

@@ -1,6 +1,6 @@
 use mathlib.Core.Path.{sym, _∙_}
 use borrow.Author.Tests.{le-ltb, lt-ltb}
-use Rattle.messages.specs.AnswerLaws.{hash-none, hash-one}
+use Rattle.messages.specs.laws.AnswerLaws.{hash-none, hash-one}
 use borrow.Author.Needs.{needs}
 use Rattle.messages.proofs.answers.read_hash.Statement.{statement}
 use Rattle.messages.proofs.answers.read_hash.Tie as tie

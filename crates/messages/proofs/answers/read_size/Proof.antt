@@ -1,6 +1,6 @@
 use mathlib.Core.Path.{sym, _∙_}
 use borrow.Author.Tests.{le-ltb, lt-ltb}
-use Rattle.messages.specs.AnswerLaws.{size-none, size-one}
+use Rattle.messages.specs.laws.AnswerLaws.{size-none, size-one}
 use borrow.Author.Needs.{needs}
 use Rattle.messages.proofs.answers.read_size.Statement.{statement}
 use Rattle.messages.proofs.answers.read_size.Tie as tie

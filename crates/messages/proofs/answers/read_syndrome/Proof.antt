@@ -1,6 +1,6 @@
 use mathlib.Core.Path.{sym, _∙_}
 use borrow.Author.Tests.{le-ltb, lt-ltb}
-use Rattle.messages.specs.AnswerLaws.{syndrome-none, syndrome-one, syndrome-two}
+use Rattle.messages.specs.laws.AnswerLaws.{syndrome-none, syndrome-one, syndrome-two}
 use borrow.Author.Needs.{needs}
 use Rattle.messages.proofs.answers.read_syndrome.Statement.{statement}
 use Rattle.messages.proofs.answers.read_syndrome.Tie as tie

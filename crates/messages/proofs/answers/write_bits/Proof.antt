@@ -1,11 +1,11 @@
 use native.Mathlib.Omega.{arith}
 use Rattle.strings.specs.Bits.{range, pack}
-use Rattle.strings.specs.RangeLaws.{range-length}
-use Rattle.strings.specs.PackLaws.{length-pack}
+use Rattle.strings.specs.laws.RangeLaws.{range-length}
+use Rattle.strings.specs.laws.PackLaws.{length-pack}
 use Rattle.messages.specs.Numbers.{number}
-use Rattle.messages.specs.NumberLaws.{size-last}
+use Rattle.messages.specs.laws.NumberLaws.{size-last}
 use Rattle.messages.specs.Answers.{answerBytes}
-use Rattle.messages.specs.WritingLaws.{two-short, two-whole}
+use Rattle.messages.specs.laws.WritingLaws.{two-short, two-whole}
 use borrow.Author.Needs.{needs}
 use Rattle.messages.proofs.answers.write_bits.Statement.{statement}
 use Rattle.messages.proofs.answers.write_bits.Tie as tie

@@ -1,5 +1,5 @@
 use native.Mathlib.Omega.{arith}
-use Rattle.messages.specs.KindLaws.{kind-none, kind-known, kind-bad}
+use Rattle.messages.specs.laws.KindLaws.{kind-none, kind-known, kind-bad}
 use Rattle.messages.specs.declared.Kind.the-variants.{Open, Hash, Syndrome, Bits}
 use borrow.Author.Needs.{needs}
 use Rattle.messages.proofs.kinds.read_kind.Statement.{statement}

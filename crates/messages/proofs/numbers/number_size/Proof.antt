@@ -1,6 +1,6 @@
 use borrow.Author.Needs.{needs}
 use mathlib.Core.Path.{sym}
-use Rattle.messages.specs.NumberLaws.{size-last, size-two, size-three, size-four, size-five}
+use Rattle.messages.specs.laws.NumberLaws.{size-last, size-two, size-three, size-four, size-five}
 use Rattle.messages.proofs.numbers.number_size.Statement.{statement}
 use Rattle.messages.proofs.numbers.number_size.Tie as tie
 

@@ -5,7 +5,7 @@ use native.Mathlib.Omega.{arith}
 use lib.ListN.{length, length-set}
 use lib.Seq.{sets}
 use Rattle.messages.specs.Numbers.{number}
-use Rattle.messages.specs.NumberLaws.{size-last, size-next, size-some, write-turn, write-last}
+use Rattle.messages.specs.laws.NumberLaws.{size-last, size-next, size-some, write-turn, write-last}
 use Rattle.messages.proofs.numbers.put_number.Statement.{statement}
 use Rattle.messages.proofs.numbers.put_number.Tie as tie
 

@@ -1,7 +1,7 @@
 use mathlib.Core.Path.{sym, ap, _∙_}
 use Prim.Native.Nat.{ℕ, _+_, _*_}
 use native.Mathlib.Omega.{arith}
-use Rattle.messages.specs.NumberLaws.{read-cut, read-zero, read-fifth, read-fifth-large}
+use Rattle.messages.specs.laws.NumberLaws.{read-cut, read-zero, read-fifth, read-fifth-large}
 use Rattle.messages.specs.declared.NumberRead.the-variants.{Value}
 use borrow.Author.Needs.{needs}
 use Rattle.messages.proofs.numbers.read_fifth.Statement.{statement}

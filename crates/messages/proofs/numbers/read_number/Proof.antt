@@ -4,7 +4,7 @@ use Prim.Native.Nat.{ℕ, _+_, _-_, _*_, _≤_, _<_}
 use native.Mathlib.Omega.{arith}
 use lib.ListN.{length}
 use Rattle.messages.specs.Numbers.{nextByte, numberAt}
-use Rattle.messages.specs.NumberLaws.{weight, weight-most, read-first, turn-fits, read-cut, read-zero, read-last, read-next, read-none, read-short, read-end}
+use Rattle.messages.specs.laws.NumberLaws.{weight, weight-most, read-first, turn-fits, read-cut, read-zero, read-last, read-next, read-none, read-short, read-end}
 use Rattle.messages.specs.declared.NumberRead.the-variants.{Value}
 use Rattle.messages.proofs.numbers.read_number.Statement.{statement}
 use Rattle.messages.proofs.numbers.read_number.Tie as tie

@@ -1,5 +1,5 @@
 use mathlib.Core.Path.{_∙_}
-use Rattle.messages.specs.QuestionLaws.{fields-opening, fields-hash, fields-syndrome, fields-bits}
+use Rattle.messages.specs.laws.QuestionLaws.{fields-opening, fields-hash, fields-syndrome, fields-bits}
 use borrow.Author.Needs.{needs}
 use Rattle.messages.proofs.questions.read_fields.Statement.{statement}
 use Rattle.messages.proofs.questions.read_fields.Tie as tie

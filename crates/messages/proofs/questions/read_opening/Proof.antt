@@ -1,5 +1,5 @@
 use mathlib.Core.Path.{sym, _∙_}
-use Rattle.messages.specs.QuestionLaws.{opening-none, opening-one, opening-two, opening-three}
+use Rattle.messages.specs.laws.QuestionLaws.{opening-none, opening-one, opening-two, opening-three}
 use borrow.Author.Needs.{needs}
 use Rattle.messages.proofs.questions.read_opening.Statement.{statement}
 use Rattle.messages.proofs.questions.read_opening.Tie as tie

@@ -1,5 +1,5 @@
 use mathlib.Core.Path.{sym, _∙_}
-use Rattle.messages.specs.QuestionLaws.{range-none, range-one, range-two}
+use Rattle.messages.specs.laws.QuestionLaws.{range-none, range-one, range-two}
 use borrow.Author.Needs.{needs}
 use Rattle.messages.proofs.questions.read_range.Statement.{statement}
 use Rattle.messages.proofs.questions.read_range.Tie as tie

@@ -1,7 +1,7 @@
 use native.Mathlib.Omega.{arith}
 use Rattle.messages.specs.Numbers.{number}
-use Rattle.messages.specs.NumberLaws.{size-most, size-last}
-use Rattle.messages.specs.WritingLaws.{four-short, four-whole}
+use Rattle.messages.specs.laws.NumberLaws.{size-most, size-last}
+use Rattle.messages.specs.laws.WritingLaws.{four-short, four-whole}
 use borrow.Author.Needs.{needs}
 use Rattle.messages.proofs.questions.write_opening.Statement.{statement}
 use Rattle.messages.proofs.questions.write_opening.Tie as tie

@@ -1,8 +1,8 @@
 use native.Mathlib.Omega.{arith}
 use Rattle.strings.specs.Bits.{range, pack}
-use Rattle.strings.specs.RangeLaws.{range-length}
-use Rattle.strings.specs.PackLaws.{length-pack}
-use Rattle.messages.specs.WritingLaws.{part-sets}
+use Rattle.strings.specs.laws.RangeLaws.{range-length}
+use Rattle.strings.specs.laws.PackLaws.{length-pack}
+use Rattle.messages.specs.laws.WritingLaws.{part-sets}
 use borrow.Author.Needs.{needs}
 use Rattle.messages.proofs.writing.put_bits.Statement.{statement}
 use Rattle.messages.proofs.writing.put_bits.Tie as tie

@@ -1,4 +1,4 @@
-use Rattle.messages.specs.WritingLaws.{bits-first}
+use Rattle.messages.specs.laws.WritingLaws.{bits-first}
 use borrow.Author.Needs.{needs}
 use Rattle.messages.proofs.writing.put_bits_first.Statement.{statement}
 use Rattle.messages.proofs.writing.put_bits_first.Tie as tie

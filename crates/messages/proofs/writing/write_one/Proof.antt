@@ -1,7 +1,7 @@
 use native.Mathlib.Omega.{arith}
 use Rattle.messages.specs.Numbers.{number}
-use Rattle.messages.specs.NumberLaws.{size-most}
-use Rattle.messages.specs.WritingLaws.{two-short, two-whole}
+use Rattle.messages.specs.laws.NumberLaws.{size-most}
+use Rattle.messages.specs.laws.WritingLaws.{two-short, two-whole}
 use borrow.Author.Needs.{needs}
 use Rattle.messages.proofs.writing.write_one.Statement.{statement}
 use Rattle.messages.proofs.writing.write_one.Tie as tie

@@ -1,7 +1,7 @@
 use native.Mathlib.Omega.{arith}
 use Rattle.messages.specs.Numbers.{number}
-use Rattle.messages.specs.NumberLaws.{size-most}
-use Rattle.messages.specs.WritingLaws.{three-short, three-whole}
+use Rattle.messages.specs.laws.NumberLaws.{size-most}
+use Rattle.messages.specs.laws.WritingLaws.{three-short, three-whole}
 use borrow.Author.Needs.{needs}
 use Rattle.messages.proofs.writing.write_two.Statement.{statement}
 use Rattle.messages.proofs.writing.write_two.Tie as tie

@@ -1,5 +1,5 @@
-use Rattle.states.specs.SoundLaws.{sound-plans}
-use Rattle.rebuilder.specs.RebuilderCodeLaws.{finished-out, short-out, asked-out}
+use Rattle.states.specs.laws.SoundLaws.{sound-plans}
+use Rattle.rebuilder.specs.laws.RebuilderCodeLaws.{finished-out, short-out, asked-out}
 use borrow.Author.Needs.{needs}
 use Rattle.rebuilder.proofs.steps.finish.Statement.{statement}
 use Rattle.rebuilder.proofs.steps.finish.Tie as tie

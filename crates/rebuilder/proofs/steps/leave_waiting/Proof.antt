@@ -1,4 +1,4 @@
-use Rattle.rebuilder.specs.RebuilderCodeLaws.{retries, retried-counts, retried-sound, retried-out}
+use Rattle.rebuilder.specs.laws.RebuilderCodeLaws.{retries, retried-counts, retried-sound, retried-out}
 use borrow.Author.Needs.{needs}
 use Rattle.rebuilder.proofs.steps.leave_waiting.Statement.{statement}
 use Rattle.rebuilder.proofs.steps.leave_waiting.Tie as tie

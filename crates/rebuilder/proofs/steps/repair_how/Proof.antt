@@ -1,4 +1,4 @@
-use Rattle.rebuilder.specs.RebuilderParts.{repairHow}
+use Rattle.rebuilder.specs.code.RebuilderParts.{repairHow}
 use borrow.Author.Tests.{eq-eqb, ne-eqb}
 use borrow.Author.Needs.{needs}
 use Rattle.rebuilder.proofs.steps.repair_how.Statement.{statement}

@@ -1,4 +1,4 @@
-use Rattle.rebuilder.specs.RebuilderCodeLaws.{holds, popped-stages, settled-counts, settled-sound, settled-out}
+use Rattle.rebuilder.specs.laws.RebuilderCodeLaws.{holds, popped-stages, settled-counts, settled-sound, settled-out}
 use borrow.Author.Needs.{needs}
 use Rattle.rebuilder.proofs.steps.settle.Statement.{statement}
 use Rattle.rebuilder.proofs.steps.settle.Tie as tie

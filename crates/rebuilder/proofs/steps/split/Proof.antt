@@ -1,4 +1,4 @@
-use Rattle.rebuilder.specs.RebuilderCodeLaws.{holds, splitting, split-counts, split-sound, split-out, split-start}
+use Rattle.rebuilder.specs.laws.RebuilderCodeLaws.{holds, splitting, split-counts, split-sound, split-out, split-start}
 use borrow.Author.Needs.{needs}
 use Rattle.rebuilder.proofs.steps.split.Statement.{statement}
 use Rattle.rebuilder.proofs.steps.split.Tie as tie

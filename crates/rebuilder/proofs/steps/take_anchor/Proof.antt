@@ -1,4 +1,4 @@
-use Rattle.rebuilder.specs.RebuilderCodeLaws.{holds, offsets, search-ready, anchor-start, anchor-text, anchor-written, anchor-part, place-splits, place-small, anchor-placed, anchor-unplaced, waiting-said, split-said, step-said}
+use Rattle.rebuilder.specs.laws.RebuilderCodeLaws.{holds, offsets, search-ready, anchor-start, anchor-text, anchor-written, anchor-part, place-splits, place-small, anchor-placed, anchor-unplaced, waiting-said, split-said, step-said}
 use borrow.Author.Needs.{needs}
 use Rattle.rebuilder.proofs.steps.take_anchor.Statement.{statement}
 use Rattle.rebuilder.proofs.steps.take_anchor.Tie as tie

@@ -1,5 +1,5 @@
 use native.Mathlib.Omega.{arith}
-use Rattle.rebuilder.specs.RebuilderCallLaws.{bits-whole, bits-acting, due-whole, due-piece, due-anchor, due-said}
+use Rattle.rebuilder.specs.laws.RebuilderCallLaws.{bits-whole, bits-acting, due-whole, due-piece, due-anchor, due-said}
 use borrow.Author.Needs.{needs}
 use Rattle.rebuilder.proofs.steps.take_bits.Statement.{statement}
 use Rattle.rebuilder.proofs.steps.take_bits.Tie as tie

@@ -1,6 +1,6 @@
 use mathlib.Core.Path.{sym}
 use native.Mathlib.Omega.{arith}
-use Rattle.rebuilder.specs.RebuilderCodeLaws.{step-hash, step-said}
+use Rattle.rebuilder.specs.laws.RebuilderCodeLaws.{step-hash, step-said}
 use borrow.Author.Needs.{needs}
 use Rattle.rebuilder.proofs.steps.take_hash.Statement.{statement}
 use Rattle.rebuilder.proofs.steps.take_hash.Tie as tie

@@ -1,4 +1,4 @@
-use Rattle.rebuilder.specs.RebuilderCodeLaws.{holds, text-part, piece-part, piece-text, step-said, step-bits, settled-said}
+use Rattle.rebuilder.specs.laws.RebuilderCodeLaws.{holds, text-part, piece-part, piece-text, step-said, step-bits, settled-said}
 use borrow.Author.Needs.{needs}
 use Rattle.rebuilder.proofs.steps.take_piece.Statement.{statement}
 use Rattle.rebuilder.proofs.steps.take_piece.Tie as tie

@@ -1,4 +1,4 @@
-use Rattle.rebuilder.specs.RebuilderCallLaws.{opening-ready, opening-next, opening-said}
+use Rattle.rebuilder.specs.laws.RebuilderCallLaws.{opening-ready, opening-next, opening-said}
 use borrow.Author.Needs.{needs}
 use Rattle.rebuilder.proofs.steps.take_size.Statement.{statement}
 use Rattle.rebuilder.proofs.steps.take_size.Tie as tie

@@ -1,5 +1,5 @@
 use native.Mathlib.Omega.{arith}
-use Rattle.rebuilder.specs.RebuilderCodeLaws.{holds, copy-part, copy-short, waiting-said, step-said, found-step, found-fits, nothing-step}
+use Rattle.rebuilder.specs.laws.RebuilderCodeLaws.{holds, copy-part, copy-short, waiting-said, step-said, found-step, found-fits, nothing-step}
 use borrow.Author.Needs.{needs}
 use Rattle.rebuilder.proofs.steps.take_syndrome.Statement.{statement}
 use Rattle.rebuilder.proofs.steps.take_syndrome.Tie as tie

@@ -1,5 +1,5 @@
 use mathlib.Core.List.{[]}
-use Rattle.rebuilder.specs.RebuilderCallLaws.{whole-counts, whole-text, whole-next, whole-said}
+use Rattle.rebuilder.specs.laws.RebuilderCallLaws.{whole-counts, whole-text, whole-next, whole-said}
 use borrow.Author.Needs.{needs}
 use Rattle.rebuilder.proofs.steps.take_whole.Statement.{statement}
 use Rattle.rebuilder.proofs.steps.take_whole.Tie as tie

@@ -1,4 +1,4 @@
-use Rattle.rebuilder.specs.RebuilderCodeLaws.{holds, editable, narrow, text-part, try-no, try-yes}
+use Rattle.rebuilder.specs.laws.RebuilderCodeLaws.{holds, editable, narrow, text-part, try-no, try-yes}
 use borrow.Author.Needs.{needs}
 use Rattle.rebuilder.proofs.steps.try_edit.Statement.{statement}
 use Rattle.rebuilder.proofs.steps.try_edit.Tie as tie

@@ -1,6 +1,6 @@
 use native.Mathlib.Nat.{div-le-self}
 use native.Mathlib.Omega.{arith}
-use Rattle.states.specs.SoundCode.{asks-left}
+use Rattle.states.specs.code.SoundCode.{asks-left}
 use borrow.Author.Needs.{needs}
 use Rattle.states.proofs.sound.asks_fit.Statement.{statement}
 use Rattle.states.proofs.sound.asks_fit.Tie as tie

@@ -3,7 +3,7 @@ use Prim.Native.Nat.{_-_, _≤_}
 use borrow.Author.Needs.{needs}
 use borrow.Author.Tests.{not-true, not-false}
 use Rattle.protocol.specs.Soundness.{blankFrom}
-use Rattle.states.specs.SoundCode.{blank-next, blank-not, blank-all}
+use Rattle.states.specs.code.SoundCode.{blank-next, blank-not, blank-all}
 use Rattle.states.proofs.sound.blank_behind.Statement.{statement}
 use Rattle.states.proofs.sound.blank_behind.Tie as tie
 

@@ -5,7 +5,7 @@ use borrow.Author.Needs.{needs}
 use borrow.Author.Tests.{not-true, not-false}
 use Rattle.protocol.specs.States.{held}
 use Rattle.protocol.specs.Soundness.{inOrder}
-use Rattle.states.specs.SoundCode.{order-next, order-not, order-all}
+use Rattle.states.specs.code.SoundCode.{order-next, order-not, order-all}
 use Rattle.states.proofs.sound.in_order.Statement.{statement}
 use Rattle.states.proofs.sound.in_order.Tie as tie
 

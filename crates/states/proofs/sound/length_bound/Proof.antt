@@ -2,8 +2,8 @@ use mathlib.Core.Path.{_≡_, refl, ap, _∙_}
 use Prim.Native.Nat.{_-_, _≤_}
 use native.Mathlib.Omega.{arith}
 use borrow.Author.Needs.{needs}
-use Rattle.protocol.specs.Counts.{bound}
-use Rattle.states.specs.SoundCode.{bound-next}
+use Rattle.protocol.specs.Soundness.{bound}
+use Rattle.states.specs.code.SoundCode.{bound-next}
 use Rattle.states.proofs.sound.length_bound.Statement.{statement}
 use Rattle.states.proofs.sound.length_bound.Tie as tie
 

@@ -1,4 +1,4 @@
-use Rattle.states.specs.SoundCode.{phase-opening, phase-pieces, phase-whole}
+use Rattle.states.specs.code.SoundCode.{phase-opening, phase-pieces, phase-whole}
 use borrow.Author.Needs.{needs}
 use Rattle.states.proofs.sound.phase_is_sound.Statement.{statement}
 use Rattle.states.proofs.sound.phase_is_sound.Tie as tie

@@ -1,7 +1,7 @@
 use mathlib.Core.Path.{sym, _∙_}
 use borrow.Author.Tests.{not-true, not-false}
-use Rattle.protocol.specs.SoundLaws.{limits-is}
-use Rattle.states.specs.SoundCode.{sound-settings, sound-ybits, sound-n, sound-waiting, sound-rest}
+use Rattle.protocol.specs.laws.SoundLaws.{limits-is}
+use Rattle.states.specs.code.SoundCode.{sound-settings, sound-ybits, sound-n, sound-waiting, sound-rest}
 use borrow.Author.Needs.{needs}
 use Rattle.states.proofs.sound.rebuilder_is_sound.Statement.{statement}
 use Rattle.states.proofs.sound.rebuilder_is_sound.Tie as tie

@@ -1,6 +1,6 @@
 use native.Mathlib.Nat.{div-le-self}
 use native.Mathlib.Omega.{arith}
-use Rattle.states.specs.SoundCode.{rows-left}
+use Rattle.states.specs.code.SoundCode.{rows-left}
 use borrow.Author.Needs.{needs}
 use Rattle.states.proofs.sound.rows_fit.Statement.{statement}
 use Rattle.states.proofs.sound.rows_fit.Tie as tie

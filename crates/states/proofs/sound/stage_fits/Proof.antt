@@ -1,6 +1,6 @@
 use borrow.Author.Tests.{eq-eqb, ne-eqb, le-leb, lt-leb}
 use Rattle.protocol.specs.Soundness.{stageFits}
-use Rattle.states.specs.StateCode.{withinOne}
+use Rattle.states.specs.code.StateCode.{withinOne}
 use borrow.Author.Needs.{needs}
 use Rattle.states.proofs.sound.stage_fits.Statement.{statement}
 use Rattle.states.proofs.sound.stage_fits.Tie as tie

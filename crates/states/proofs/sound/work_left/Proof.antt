@@ -3,7 +3,7 @@ use Prim.Native.Nat.{_+_, _-_, _*_, _≤_}
 use native.Mathlib.Omega.{arith}
 use borrow.Author.Needs.{needs}
 use Rattle.protocol.specs.States.{held}
-use Rattle.states.specs.SoundCode.{workLeft, work-turn, work-none, part-small}
+use Rattle.states.specs.code.SoundCode.{workLeft, work-turn, work-none, part-small}
 use Rattle.states.proofs.sound.work_left.Statement.{statement}
 use Rattle.states.proofs.sound.work_left.Tie as tie
 

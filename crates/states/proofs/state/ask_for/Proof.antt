@@ -1,7 +1,7 @@
 use native.Mathlib.Omega.{arith}
 use borrow.Author.Tests.{eq-eqb, ne-eqb, le-leb, lt-leb}
 use Rattle.protocol.specs.States.{askFor}
-use Rattle.protocol.specs.SoundParts.{offset-within}
+use Rattle.protocol.specs.laws.SoundParts.{offset-within}
 use Rattle.states.proofs.state.ask_for.Statement.{statement}
 use Rattle.states.proofs.state.ask_for.Tie as tie
 

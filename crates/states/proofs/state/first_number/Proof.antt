@@ -1,4 +1,4 @@
-use Rattle.states.specs.StateCode.{first-near, first-far}
+use Rattle.states.specs.code.StateCode.{first-near, first-far}
 use borrow.Author.Needs.{needs}
 use Rattle.states.proofs.state.first_number.Statement.{statement}
 use Rattle.states.proofs.state.first_number.Tie as tie

@@ -1,7 +1,7 @@
 use mathlib.Core.Path.{ap, _∙_}
 use Rattle.protocol.specs.States.{restaged}
 use Rattle.protocol.specs.RebuilderCall.{openingStep}
-use Rattle.states.specs.StateCode.{stages-push}
+use Rattle.states.specs.code.StateCode.{stages-push}
 use borrow.Author.Needs.{needs}
 use Rattle.states.proofs.state.open_state.Statement.{statement}
 use Rattle.states.proofs.state.open_state.Tie as tie

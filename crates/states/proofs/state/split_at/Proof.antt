@@ -1,6 +1,6 @@
 use mathlib.Core.Path.{ap}
 use native.Mathlib.Omega.{arith}
-use Rattle.states.specs.StateCode.{after-pop, after-push, stages-after, split-is}
+use Rattle.states.specs.code.StateCode.{after-pop, after-push, stages-after, split-is}
 use borrow.Author.Needs.{needs}
 use Rattle.states.proofs.state.split_at.Statement.{statement}
 use Rattle.states.proofs.state.split_at.Tie as tie

@@ -2,7 +2,7 @@ use mathlib.Core.Path.{_≡_}
 use Prim.Native.Nat.{_+_}
 use native.Mathlib.Omega.{arith}
 use borrow.Author.Tests.{eq-eqb}
-use Rattle.states.specs.StateCode.{withinOne, one-less, one-more}
+use Rattle.states.specs.code.StateCode.{withinOne, one-less, one-more}
 use borrow.Author.Needs.{needs}
 use Rattle.states.proofs.state.within_one.Statement.{statement}
 use Rattle.states.proofs.state.within_one.Tie as tie

@@ -1,0 +1,9 @@
+-- Laws of the definitions, for proofs.
+pub mod StoreLaws
+pub mod Bytes32Laws
+pub mod LayoutLaws
+pub mod SheetLaws
+pub mod PackingLaws
+pub mod HolderBytesLaws
+pub mod RebuilderBytesLaws
+pub mod CarriedLaws

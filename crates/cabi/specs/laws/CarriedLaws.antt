@@ -1,0 +1,173 @@
+-- The bytes carry the rebuilder's state from call to call: what the start or a taken call leaves is read as its state.
+use mathlib.Core.Path.{_≡_, refl}
+use mathlib.Core.Bool.{Bool, true, false, _&&_}
+use mathlib.Core.List.{List, _++_}
+use Prim.Native.Nat.{ℕ, zero, suc, _+_, _-_, _≤_, _<_}
+use native.Mathlib.Nat.{div-le-self}
+use native.Mathlib.Omega.{arith}
+use native.Mathlib.Decide.{ℕ-discrete, decLt}
+use lib.ListN.{length, getD, List·getD-eq-default}
+use lib.Dec.{leb, eqb}
+use borrow.Author.Tests.{eqb-true, eq-eqb, ne-eqb}
+use Rattle.strings.specs.laws.PackLaws.{Bytes}
+use Rattle.strings.specs.StringRule.{stringRule}
+use Rattle.strings.specs.laws.RuleLaws.{rule-is}
+use Rattle.strings.specs.laws.Tests.{and-left, and-right, by-test}
+use Rattle.strings.specs.declared.Refusal.{Refusal}
+use Rattle.strings.specs.declared.Refusal.the-variants.{BadSetting, BadString, OutOfTurn, NoRoom}
+use Rattle.protocol.specs.declared.Settings.{Settings}
+use Rattle.protocol.specs.declared.Piece.{Piece}
+use Rattle.protocol.specs.declared.Rebuilder.{Rebuilder}
+use Rattle.protocol.specs.Limits.{withinLimits}
+use Rattle.protocol.specs.States.{noPiece, held}
+use Rattle.protocol.specs.Soundness.{sound, openingSound, wholeSound, phaseSound}
+use Rattle.protocol.specs.laws.SoundLaws.{both, Ordered}
+use Rattle.protocol.specs.laws.SoundParts.{top-most, Framed, sound-is, PiecesIs, pieces-is, WholeIs, whole-is}
+use Rattle.protocol.specs.laws.SoundSteps.{fresh-sound}
+use Rattle.protocol.specs.RebuilderCall.{Started, starts, unlessStarted, rebuilderStart, freshRebuilder, Taken, takes, unlessTaken, Step, Rooms, rebuilderCall}
+use Rattle.protocol.specs.laws.Asking.{call-sound}
+use Rattle.protocol.specs.laws.Delivery.{started-is}
+use Rattle.cabi.specs.Layout.{rebuilderBytes, rebuilderOf}
+use Rattle.cabi.specs.laws.LayoutLaws.{PieceFits, RebuilderFits, rebuilder-read, rebuilder-back, rebuilder-pieces}
+use Rattle.cabi.specs.Calls.{startOnBytes, rebuilderOnBytes}
+
+-- ---- every number of a sound state is below 2^32
+-- a piece of n bits of X and e of Y
+piece-fits : (n e : ℕ) (pc : Piece) → n ≤ 65536 → e ≤ 65536 → pc .x + pc .p ≤ n → pc .y + pc .q ≤ e → PieceFits pc
+piece-fits n e pc a b c d = record { x-fits = omega arith; p-fits = omega arith; y-fits = omega arith; q-fits = omega arith }
+
+held-fits : (n e x y w : ℕ) (l : List Piece) → n ≤ 65536 → e ≤ 65536 → Ordered n e x y (held w l) → (i : ℕ) → i < w → PieceFits (getD l i noPiece)
+held-fits n e x y zero l a b o i h = absurd (omega arith)
+held-fits n e x y (suc w) l a b o i h =
+    go (ℕ-discrete i w)
+    (λ k. held-fits n e (getD l w noPiece .x + getD l w noPiece .p) (getD l w noPiece .y + getD l w noPiece .q) w l a b (o .6) i k)
+  where
+    go : Dec (i ≡ w) → (i < w → PieceFits (getD l i noPiece)) → PieceFits (getD l i noPiece)
+    go (yes z) f = rw z (piece-fits n e (getD l w noPiece) a b (o .3) (o .4))
+    go (no z) f = f (omega arith)
+
+none-fits : PieceFits noPiece
+none-fits = record { x-fits = omega arith; p-fits = omega arith; y-fits = omega arith; q-fits = omega arith }
+
+pieces-fit : (st : Rebuilder) → Framed st → length (st .pieces) ≡ 32 → Ordered (st .n) (st .ybits) 0 0 (held (st .waiting) (st .pieces)) → (i : ℕ) → PieceFits (getD (st .pieces) i noPiece)
+pieces-fit st f l o i = go (decLt i (st .waiting)) (decLt i 32)
+  where
+    go : Dec (i < st .waiting) → Dec (i < 32) → PieceFits (getD (st .pieces) i noPiece)
+    go (yes a) b = held-fits (st .n) (st .ybits) 0 0 (st .waiting) (st .pieces) (f .size) (f .copy) o i a
+    go (no a) (yes b) = rw (f .blank i (omega arith) b) none-fits
+    go (no a) (no b) = rw (List·getD-eq-default (st .pieces) noPiece {n = i} (omega arith)) none-fits
+
+-- the fields that the phase bounds
+record Bounded (st : Rebuilder) : Type 0 where
+  phase-most : st .phase ≤ 2
+  answered-most : st .answered ≤ 1000000
+  counted-most : st .counted ≤ 1000000
+  rows-most : st .rows ≤ 1000000
+  stage-most′ : st .stage ≤ 4
+  order : Ordered (st .n) (st .ybits) 0 0 (held (st .waiting) (st .pieces))
+
+opening-bounded : (st : Rebuilder) → st .phase ≡ 0 → openingSound st ≡ true → Bounded st
+unfolding openingSound
+opening-bounded st p e =
+    let a = both (eqb (st .n) 0) (eqb (st .answered) 0 && (eqb (st .counted) 0 && (eqb (st .rows) 0 && (eqb (st .stage) 0 && eqb (st .waiting) 0)))) e in
+    let b = both (eqb (st .answered) 0) (eqb (st .counted) 0 && (eqb (st .rows) 0 && (eqb (st .stage) 0 && eqb (st .waiting) 0))) (a .1) in
+    let c = both (eqb (st .counted) 0) (eqb (st .rows) 0 && (eqb (st .stage) 0 && eqb (st .waiting) 0)) (b .1) in
+    let d = both (eqb (st .rows) 0) (eqb (st .stage) 0 && eqb (st .waiting) 0) (c .1) in
+    let f = both (eqb (st .stage) 0) (eqb (st .waiting) 0) (d .1) in
+    let answered = eqb-true (st .answered) 0 (b .0) in
+    let counted = eqb-true (st .counted) 0 (c .0) in
+    let rows = eqb-true (st .rows) 0 (d .0) in
+    let stage = eqb-true (st .stage) 0 (f .0) in
+    record {
+      phase-most = omega arith;
+      answered-most = omega arith;
+      counted-most = omega arith;
+      rows-most = omega arith;
+      stage-most′ = omega arith;
+      order = rw (eqb-true (st .waiting) 0 (f .1)) tt;
+    }
+
+pieces-bounded : (st : Rebuilder) → Framed st → st .phase ≡ 1 → PiecesIs st → Bounded st
+pieces-bounded st f p k =
+    let l = f .limits .ceiling-most in
+    let n = f .size in
+    let q = div-le-self (st .n) (st .settings .m) in
+    let s = top-most st (k .stack .fits) in
+    let r = k .stack .rows in
+    let a = k .asks in
+    let c = by-test (λ (v : ℕ). st .counted ≤ v → st .counted ≤ 1000000) (eqb (st .waiting) 0) (λ e h. omega arith) (λ e h. omega arith) (k .counted) in
+    record { phase-most = omega arith; answered-most = omega arith; counted-most = c; rows-most = omega arith; stage-most′ = s; order = k .stack .order }
+
+whole-bounded : (st : Rebuilder) → Framed st → st .phase ≡ 2 → WholeIs st → Bounded st
+whole-bounded st f p k =
+    let l = f .limits .ceiling-most in
+    let n = f .size in
+    let q = div-le-self (st .n) (st .settings .m) in
+    let s = top-most st (k .stack .fits) in
+    let r = k .stack .rows in
+    let a = k .asks in
+    let c = k .counted in
+    record { phase-most = omega arith; answered-most = omega arith; counted-most = omega arith; rows-most = omega arith; stage-most′ = s; order = k .stack .order }
+
+bounded : (st : Rebuilder) → Framed st → phaseSound st ≡ true → Bounded st
+bounded st f e = go (ℕ-discrete (st .phase) 0) (ℕ-discrete (st .phase) 1)
+  where
+    go : Dec (st .phase ≡ 0) → Dec (st .phase ≡ 1) → Bounded st
+    go (yes z) o = opening-bounded st z (rw (eq-eqb (st .phase) 0 z) at e)
+    go (no z) (yes o) = pieces-bounded st f o (pieces-is st (rw (ne-eqb (st .phase) 0 z, eq-eqb (st .phase) 1 o) at e))
+    go (no z) (no o) =
+        let g : eqb (st .phase) 2 && wholeSound st ≡ true = rw (ne-eqb (st .phase) 0 z, ne-eqb (st .phase) 1 o) at e in
+        whole-bounded st f (eqb-true (st .phase) 2 (and-left (eqb (st .phase) 2) (wholeSound st) g)) (whole-is st (and-right (eqb (st .phase) 2) (wholeSound st) g))
+
+pub sound-fits : (st : Rebuilder) → sound st ≡ true → length (st .pieces) ≡ 32 → RebuilderFits st
+sound-fits st e l =
+    let i = sound-is st e in
+    let f = i .0 in
+    let k = bounded st f (i .1) in
+    let m = f .limits in
+    let m1 = m .m-most in let m2 = m .h-most in let m3 = m .k-most in let m4 = m .key-most in let m5 = m .ceiling-most in
+    let f1 = f .copy in let f2 = f .size in let f3 = f .few in
+    let k1 = k .phase-most in let k2 = k .answered-most in let k3 = k .counted-most in let k4 = k .rows-most in let k5 = k .stage-most′ in
+    record {
+      settings-fit = record { m-fits = omega arith; h-fits = omega arith; k-fits = omega arith; key-fits = omega arith; ceiling-fits = omega arith };
+      ybits-fits = omega arith;
+      phase-fits = omega arith;
+      n-fits = omega arith;
+      answered-fits = omega arith;
+      counted-fits = omega arith;
+      rows-fits = omega arith;
+      stage-fits = omega arith;
+      waiting-fits = omega arith;
+      pieces-fit = pieces-fit st f l (k .order);
+      pieces-number = l;
+    }
+
+-- ---- the start and the call
+unless-starts : (t : Bool) (e : Refusal) (k : Started) (st : Rebuilder) (m : List ℕ) → unlessStarted t e k ≡ starts st m → (t ≡ true) × (k ≡ starts st m)
+unless-starts true e k st m h = (refl, h)
+unless-starts false e k st m h = let z : _≡_ {A = ℕ} 0 1 = cc in absurd (omega arith)
+
+unless-takes : (t : Bool) (e : Refusal) (k : Taken) (j : Step) (m : List ℕ) → unlessTaken t e k ≡ takes j m → (t ≡ true) × (k ≡ takes j m)
+unless-takes true e k j m h = (refl, h)
+unless-takes false e k j m h = let z : _≡_ {A = ℕ} 0 1 = cc in absurd (omega arith)
+
+-- later bytes of the state's slice are not read
+pub start-carried : (S : Settings) (y : List ℕ) (bits stateRoom room : ℕ) (st : Rebuilder) (m l : List ℕ) → startOnBytes S y bits stateRoom room ≡ starts st m
+    → rebuilderOf (rebuilderBytes st ++ l) ≡ st
+unfolding startOnBytes
+start-carried S y bits stateRoom room st m l e =
+    let t = unless-starts (withinLimits S) BadSetting (unlessStarted (stringRule y bits) BadString (unlessStarted (leb 564 stateRoom) NoRoom (rebuilderStart S y bits room))) st m e in
+    let u = unless-starts (stringRule y bits) BadString (unlessStarted (leb 564 stateRoom) NoRoom (rebuilderStart S y bits room)) st m (t .1) in
+    let v = unless-starts (leb 564 stateRoom) NoRoom (rebuilderStart S y bits room) st m (u .1) in
+    let k = started-is S y bits room st m (v .1) in
+    let f = fresh-sound S bits (k .limits) (rule-is y bits (k .string) .few) in
+    rebuilder-read st l (rw (k .state) (sound-fits (freshRebuilder S bits) (f .0) (f .1)))
+
+pub call-carried : (s y : List ℕ) (bits : ℕ) (msg : List ℕ) (rooms : Rooms) (j : Step) (m : List ℕ) → Bytes msg → rebuilderOnBytes s y bits msg rooms ≡ takes j m
+    → rebuilderOf (rebuilderBytes (j .state)) ≡ j .state
+unfolding rebuilderOnBytes
+call-carried s y bits msg rooms j m b e =
+    let u = unless-takes (stringRule y bits) BadString (unlessTaken (eqb (length s) 564) OutOfTurn (rebuilderCall (rebuilderOf s) y bits msg rooms)) j m e in
+    let v = unless-takes (eqb (length s) 564) OutOfTurn (rebuilderCall (rebuilderOf s) y bits msg rooms) j m (u .1) in
+    let f = call-sound (rebuilderOf s) y bits msg rooms j m (rebuilder-pieces s) b (v .1) in
+    rebuilder-back (j .state) (sound-fits (j .state) (f .0) (f .1))

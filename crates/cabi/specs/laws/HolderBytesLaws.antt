@@ -1,0 +1,195 @@
+-- Laws of a fresh holder and of the holder's call on bytes: its returns, and that the bytes carry the state from call to call.
+use mathlib.Core.Path.{_≡_, refl, sym, ap, _∙_}
+use mathlib.Core.Bool.{Bool, true, false}
+use mathlib.Core.List.{List, _++_, append-nil}
+use Prim.Native.Nat.{ℕ, _+_, _*_, _≤_, _<_}
+use native.Mathlib.Omega.{arith}
+use lib.ListN.{length, drop, length-append, length-take, length-drop, drop-of-length-le}
+use lib.Dec.{eqb}
+use borrow.Author.Tests.{le-leb, lt-leb, eq-eqb, ne-eqb}
+use Rattle.strings.specs.Bits.{range, atFront}
+use Rattle.strings.specs.laws.PackLaws.{Bytes}
+use Rattle.strings.specs.laws.RangeLaws.{range-length}
+use Rattle.strings.specs.StringRule.{stringRule}
+use Rattle.strings.specs.Refusals.{refusalNumber}
+use Rattle.strings.specs.declared.Refusal.{Refusal}
+use Rattle.strings.specs.declared.Refusal.the-variants.{BadString, OutOfTurn}
+use Rattle.codes.specs.Syndrome.{syndrome}
+use Rattle.codes.specs.Hash.{hash}
+use Rattle.codes.specs.Entries.{refusal, value}
+use Rattle.messages.specs.declared.Question.{Question}
+use Rattle.messages.specs.declared.Question.the-variants.{AskOpen, AskHash, AskSyndrome, AskBits}
+use Rattle.messages.specs.laws.QuestionLaws.{keyOf, fields-form}
+use Rattle.messages.specs.Numbers.{number}
+use Rattle.messages.specs.laws.NumberLaws.{size-most}
+use Rattle.messages.specs.Answers.{syndromeAnswer, answerBytes}
+use Rattle.messages.specs.laws.AnswerLaws.{answer-size, size-answer-most, hash-answer-most, bits-answer-size}
+use Rattle.protocol.specs.declared.Holder.{Holder}
+use Rattle.protocol.specs.Anchors.{part}
+use Rattle.protocol.specs.Runs.{answer}
+use Rattle.protocol.specs.HolderCall.{Heard, declines, replies, unlessHeard, holderCall, freshHolder}
+use Rattle.protocol.specs.laws.HolderLaws.{heard-call, Made, opens, counts, heard-made, holder-sound}
+use Rattle.holder.specs.declared.HolderAnswer.the-variants.{Replied, Refused}
+use Rattle.holder.specs.declared.HolderOut.{HolderOut}
+use Rattle.holder.specs.HolderOutcome.{HolderSaid, answerSaid, saidHolder, leavesHolder}
+use Rattle.cabi.specs.Layout.{holderBytes, holderOf}
+use Rattle.cabi.specs.laws.LayoutLaws.{HolderFits, holder-back, length-holder}
+use Rattle.cabi.specs.laws.Bytes32Laws.{number-below}
+use Rattle.cabi.specs.Packing.{packed}
+use Rattle.cabi.specs.Calls.{holderMade, holderOnBytes, holderLeft}
+
+-- ---- a fresh holder
+pub fresh-short : (s : List ℕ) → length s < 20 → record { result = 9; state = s } ≡ holderMade s
+unfolding holderMade packed
+fresh-short s h = rw (lt-leb 20 (length s) h) refl
+
+pub fresh-whole : (s t : List ℕ) → 20 ≤ length s → t ≡ holderBytes freshHolder ++ drop 20 s → record { result = 0; state = t } ≡ holderMade s
+unfolding holderMade packed
+fresh-whole s t h e =
+    rw (le-leb 20 (length s) h, e) (ap (λ (n : ℕ). record { result = 0; state = holderBytes freshHolder ++ drop n s }) (sym (length-holder freshHolder)))
+
+pub fresh-carried : holderOf (holderBytes freshHolder) ≡ freshHolder
+fresh-carried =
+    holder-back freshHolder (record { opened-fits = omega arith; bits-fits = omega arith; h-fits = omega arith; key-fits = omega arith; answers-fits = omega arith })
+
+-- ---- a reply has at most 65,536 bytes
+part-most : (l : List Bool) (x p : ℕ) → length (part l x p) ≤ length l
+part-most l x p = let a = length-take p (drop x l) in let b = length-drop x l in omega arith
+
+answer-most : (h key : ℕ) (X : List Bool) (q : Question) → length X ≤ 65536 → length (answerBytes (answer h key X q)) ≤ 65536
+answer-most h key X (AskOpen h′ key′) m = let e = size-answer-most (length X) m in omega arith
+answer-most h key X (AskHash x p) m = let e = hash-answer-most (hash h key (part X x p)) in omega arith
+answer-most h key X (AskSyndrome x p) m =
+    let a : ℕ = syndrome (part X x p) in
+    let v : ℕ = hash h key (part X x p) in
+    let e = answer-size (syndromeAnswer a v) in
+    let f = length-append (number a) (number v) in
+    let i = size-most a in
+    let j = size-most v in
+    omega arith
+answer-most h key X (AskBits x p) m = let e = bits-answer-size (part X x p) in let k = part-most X x p in omega arith
+
+pub reply-most : (st : Holder) (x : List ℕ) (bits : ℕ) (msg : List ℕ) (room : ℕ) (next : Holder) (m : List ℕ)
+    → holderCall st x bits msg room ≡ replies next m → length m ≤ 65536
+reply-most st x bits msg room next m e =
+    let k = heard-call st x bits msg room next m e in
+    let l = range-length x 0 bits in
+    let f = k .few in
+    rw (k .sends) (answer-most (st .h) (st .key) (range x 0 bits) (k .q) (omega arith))
+
+-- ---- the returns
+module _ (s x : List ℕ) (bits : ℕ) (msg reply : List ℕ) where
+  pub holder-bad-string : stringRule x bits ≡ false
+      → record { result = 2; state = s; reply = reply } ≡ holderLeft s reply (holderOnBytes s x bits msg (length reply))
+  unfolding holderOnBytes packed
+  holder-bad-string e = rw e refl
+
+  pub holder-no-state : stringRule x bits ≡ true → (length s ≡ 20 → ⊥)
+      → record { result = 3; state = s; reply = reply } ≡ holderLeft s reply (holderOnBytes s x bits msg (length reply))
+  unfolding holderOnBytes packed
+  holder-no-state e f = rw (e, ne-eqb (length s) 20 f) refl
+
+  pub holder-called : stringRule x bits ≡ true → length s ≡ 20 → holderOnBytes s x bits msg (length reply) ≡ holderCall (holderOf s) x bits msg (length reply)
+  unfolding holderOnBytes
+  holder-called e f = rw (e, eq-eqb (length s) 20 f) refl
+
+-- what the call on the state says, as bytes
+module _ (s reply reply′ : List ℕ) (st : Holder) (out : HolderOut) where
+  holder-declined : (t : Heard) (e : Refusal) → saidHolder out reply′ ≡ leavesHolder st reply t → out .answer ≡ Refused e
+      → record { result = packed (refusal (refusalNumber e)); state = s; reply = reply′ } ≡ holderLeft s reply t
+  holder-declined (declines d) e k f =
+      let a : answerSaid (out .answer) ≡ refusal (refusalNumber d) = ap (λ (w : HolderSaid). w .answer) k in
+      let b : refusal (refusalNumber e) ≡ refusal (refusalNumber d) = rw f at a in
+      let c : reply′ ≡ reply = ap (λ (w : HolderSaid). w .reply) k in
+      rw (b, c) refl
+  holder-declined (replies next m) e k f =
+      let a : answerSaid (out .answer) ≡ value (length m) = ap (λ (w : HolderSaid). w .answer) k in
+      let b : refusal (refusalNumber e) ≡ value (length m) = rw f at a in
+      let z : _≡_ {A = ℕ} 0 1 = cc in absurd (omega arith)
+
+  holder-size : (t : Heard) (size : ℕ) → saidHolder out reply′ ≡ leavesHolder st reply t → out .answer ≡ Replied size
+      → ((next : Holder) (m : List ℕ) → t ≡ replies next m → length m ≤ 65536) → size ≤ 65536
+  holder-size (declines d) size k f h =
+      let a : answerSaid (out .answer) ≡ refusal (refusalNumber d) = ap (λ (w : HolderSaid). w .answer) k in
+      let b : value size ≡ refusal (refusalNumber d) = rw f at a in
+      let z : _≡_ {A = ℕ} 0 1 = cc in absurd (omega arith)
+  holder-size (replies next m) size k f h =
+      let a : answerSaid (out .answer) ≡ value (length m) = ap (λ (w : HolderSaid). w .answer) k in
+      let b : value size ≡ value (length m) = rw f at a in
+      let c : size ≡ length m = cc in
+      let i = h next m refl in omega arith
+
+  holder-replied : (t : Heard) (size : ℕ) (s′ : List ℕ) → saidHolder out reply′ ≡ leavesHolder st reply t → out .answer ≡ Replied size → s′ ≡ holderBytes (out .state)
+      → record { result = size * 16; state = s′; reply = reply′ } ≡ holderLeft s reply t
+  unfolding packed
+  holder-replied (declines d) size s′ k f g =
+      let a : answerSaid (out .answer) ≡ refusal (refusalNumber d) = ap (λ (w : HolderSaid). w .answer) k in
+      let b : value size ≡ refusal (refusalNumber d) = rw f at a in
+      let z : _≡_ {A = ℕ} 0 1 = cc in absurd (omega arith)
+  holder-replied (replies next m) size s′ k f g =
+      let a : answerSaid (out .answer) ≡ value (length m) = ap (λ (w : HolderSaid). w .answer) k in
+      let b : value size ≡ value (length m) = rw f at a in
+      let c : size ≡ length m = cc in
+      let d : out .state ≡ next = ap (λ (w : HolderSaid). w .state) k in
+      let i : reply′ ≡ atFront m reply = ap (λ (w : HolderSaid). w .reply) k in
+      rw (g, d, c, i) refl
+
+-- for the code: the answer's two cases; st is the state that was read
+module _ (s x : List ℕ) (bits : ℕ) (msg reply reply′ : List ℕ) (st : Holder) (out : HolderOut) (e : stringRule x bits ≡ true) (f : length s ≡ 20) (g : st ≡ holderOf s)
+    (k : saidHolder out reply′ ≡ leavesHolder st reply (holderCall st x bits msg (length reply))) where
+  called : holderOnBytes s x bits msg (length reply) ≡ holderCall st x bits msg (length reply)
+  called = holder-called s x bits msg reply e f ∙ ap (λ (z : Holder). holderCall z x bits msg (length reply)) (sym g)
+
+  pub answer-declined : (d : Refusal) (r : ℕ) → out .answer ≡ Refused d → r ≡ packed (refusal (refusalNumber d))
+      → record { result = r; state = s; reply = reply′ } ≡ holderLeft s reply (holderOnBytes s x bits msg (length reply))
+  answer-declined d r a h = rw (called, h) (holder-declined s reply reply′ st out (holderCall st x bits msg (length reply)) d k a)
+
+  pub answer-small : (size : ℕ) → out .answer ≡ Replied size → size ≤ 65536
+  answer-small size a = holder-size s reply reply′ st out (holderCall st x bits msg (length reply)) size k a (λ next m t. reply-most st x bits msg (length reply) next m t)
+
+  pub answer-replied : (size : ℕ) (s′ : List ℕ) → out .answer ≡ Replied size → s′ ≡ holderBytes (out .state) ++ drop 20 s
+      → record { result = size * 16; state = s′; reply = reply′ } ≡ holderLeft s reply (holderOnBytes s x bits msg (length reply))
+  answer-replied size s′ a h =
+      let whole : holderBytes (out .state) ++ drop 20 s ≡ holderBytes (out .state)
+      = ap (λ (l : List ℕ). holderBytes (out .state) ++ l) (drop-of-length-le s {i = 20} (let z = f in omega arith)) ∙ append-nil (holderBytes (out .state)) in
+      rw called (holder-replied s reply reply′ st out (holderCall st x bits msg (length reply)) size s′ k a (h ∙ whole))
+
+-- ---- the bytes carry the state: what a taken call leaves is read as its next state
+holder-fits : (s : List ℕ) → Bytes s → HolderFits (holderOf s)
+unfolding holderOf
+holder-fits s b = record {
+  opened-fits = number-below s 0 b;
+  bits-fits = number-below s 4 b;
+  h-fits = number-below s 8 b;
+  key-fits = number-below s 12 b;
+  answers-fits = number-below s 16 b;
+}
+
+unless-replies : (t : Bool) (e : Refusal) (k : Heard) (next : Holder) (m : List ℕ) → unlessHeard t e k ≡ replies next m → (t ≡ true) × (k ≡ replies next m)
+unless-replies true e k next m h = (refl, h)
+unless-replies false e k next m h = let z : _≡_ {A = ℕ} 0 1 = cc in absurd (omega arith)
+
+pub holder-carried : (s x : List ℕ) (bits : ℕ) (msg : List ℕ) (room : ℕ) (next : Holder) (m : List ℕ) → Bytes s → Bytes msg
+    → holderOnBytes s x bits msg room ≡ replies next m → holderOf (holderBytes next) ≡ next
+unfolding holderOnBytes
+holder-carried s x bits msg room next m b c e =
+    let u = unless-replies (stringRule x bits) BadString (unlessHeard (eqb (length s) 20) OutOfTurn (holderCall (holderOf s) x bits msg room)) next m e in
+    let v = unless-replies (eqb (length s) 20) OutOfTurn (holderCall (holderOf s) x bits msg room) next m (u .1) in
+    let o = holder-sound (holderOf s) x bits msg room next m (v .1) in
+    let k = heard-call (holderOf s) x bits msg room next m (v .1) in
+    let p = o .opened in
+    let q = o .bits in
+    let r = o .h-most in
+    let w = o .answers-most in
+    let i = fields-form msg c (k .kind) (k .at) bits (k .q) (k .fields) .range .key-most in
+    holder-back next (record {
+      opened-fits = omega arith;
+      bits-fits = omega arith;
+      h-fits = omega arith;
+      answers-fits = omega arith;
+      key-fits = key-small (k .q) i (heard-made (holderOf s) x bits msg room next m k);
+    })
+  where
+    key-small : (q : Question) → keyOf q < 4294967296 → Made (holderOf s) bits q next → next .key < 4294967296
+    key-small q i (opens z h key a w n) = let j = ap keyOf a in rw n (omega arith)
+    key-small q i (counts z n f) = rw f (holder-fits s b .key-fits)

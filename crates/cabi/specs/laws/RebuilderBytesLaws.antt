@@ -1,0 +1,262 @@
+-- Laws of the rebuilder's start and call on bytes: its returns, that a change of the sheet lies in its bytes, that results are small.
+use mathlib.Core.Path.{_≡_, refl, sym, ap, _∙_}
+use mathlib.Core.Bool.{true, false}
+use mathlib.Core.List.{List, [], _∷_, _++_, append-nil}
+use mathlib.Core.Option.{Option, none, some}
+use Prim.Native.Nat.{ℕ, _+_, _*_, _≤_, _<_}
+use native.Mathlib.Omega.{arith}
+use lib.ListN.{length, drop, length-append, drop-of-length-le}
+use borrow.Author.Tests.{le-leb, lt-leb, eq-eqb, ne-eqb}
+use Rattle.strings.specs.Bits.{atFront}
+use Rattle.strings.specs.StringRule.{stringRule}
+use Rattle.strings.specs.Refusals.{refusalNumber}
+use Rattle.strings.specs.declared.Refusal.{Refusal}
+use Rattle.codes.specs.Entries.{Answer, refusal, value}
+use Rattle.messages.specs.declared.Question.{Question}
+use Rattle.messages.specs.declared.Question.the-variants.{AskOpen, AskHash, AskSyndrome, AskBits}
+use Rattle.messages.specs.Numbers.{number}
+use Rattle.messages.specs.laws.NumberLaws.{size-most}
+use Rattle.messages.specs.Kinds.{kindNumber}
+use Rattle.messages.specs.laws.KindLaws.{kind-size}
+use Rattle.messages.specs.Questions.{questionKind, questionBytes}
+use Rattle.messages.specs.laws.QuestionLaws.{fieldBytes, question-parts}
+use Rattle.protocol.specs.declared.Settings.{Settings}
+use Rattle.protocol.specs.declared.Rebuilder.{Rebuilder}
+use Rattle.protocol.specs.Limits.{withinLimits}
+use Rattle.protocol.specs.States.{planned}
+use Rattle.protocol.specs.RebuilderCall.{Started, startDeclines, starts, rebuilderStart, Taken, refuses, takes, Step, Rooms, rebuilderCall, writtenQuestion, stepOf, stringAfter}
+use Rattle.protocol.specs.laws.Asking.{TakenCall, taken-call}
+use Rattle.protocol.specs.laws.Delivery.{started-is}
+use Rattle.protocol.specs.laws.SheetRoom.{rowsNeeded}
+use Rattle.rebuilder.specs.declared.StartAnswer.the-variants.{Begun, NotBegun}
+use Rattle.rebuilder.specs.declared.StartOut.{StartOut}
+use Rattle.rebuilder.specs.declared.RebuilderAnswer.{RebuilderAnswer}
+use Rattle.rebuilder.specs.declared.RebuilderAnswer.the-variants.{Asks, Finished, Refused}
+use Rattle.rebuilder.specs.declared.RebuilderOut.{RebuilderOut}
+use Rattle.rebuilder.specs.RebuilderOutcome.{startSaid, StartSaid, saidStart, leavesStart, callSaid, RebuilderSaid, saidRebuilder, nextSize, leavesRebuilder}
+use Rattle.ends.specs.laws.SheetCallLaws.{change-fits}
+use Rattle.cabi.specs.Layout.{rebuilderBytes, rebuilderOf}
+use Rattle.cabi.specs.laws.LayoutLaws.{length-rebuilder}
+use Rattle.cabi.specs.Sheet.{sheetBytesAfter}
+use Rattle.cabi.specs.Packing.{packed}
+use Rattle.cabi.specs.Calls.{startOnBytes, startLeft, rebuilderOnBytes, roomsIn, rebuilderLeft}
+
+-- ---- a question has at most 16 bytes, whatever its numbers
+question-most : (q : Question) → length (questionBytes q) ≤ 16
+question-most q =
+    let e = length-append (number (kindNumber (questionKind q))) (fieldBytes q) in
+    let k = kind-size (questionKind q) in
+    let p = ap length (question-parts q) in
+    let f = fields q in
+    omega arith
+  where
+    two : (a b : ℕ) → length (number a ++ number b) ≤ 10
+    two a b = let e = length-append (number a) (number b) in let i = size-most a in let j = size-most b in omega arith
+
+    fields : (q : Question) → length (fieldBytes q) ≤ 15
+    fields (AskOpen h key) = let e = length-append (number 1) (number h ++ number key) in let i = size-most 1 in let j = two h key in omega arith
+    fields (AskHash start len) = let j = two start len in omega arith
+    fields (AskSyndrome start len) = let j = two start len in omega arith
+    fields (AskBits start len) = let j = two start len in omega arith
+
+written-most : (o : Option Question) → length (writtenQuestion o) ≤ 16
+written-most none = omega arith
+written-most (some q) = question-most q
+
+-- as the one that a taken call writes
+pub taken-small : (st : Rebuilder) (y : List ℕ) (bits : ℕ) (msg : List ℕ) (rooms : Rooms) (step : Step) (next : List ℕ) → rebuilderCall st y bits msg rooms ≡ takes step next → length next ≤ 16
+taken-small st y bits msg rooms step next e =
+    let k : TakenCall st y msg rooms step next = taken-call st y bits msg rooms step next e in
+    rw (k .asks) (written-most (planned (stepOf st y (length msg) (k .a) .state)))
+
+-- ---- the returns of the call
+module _ (s y : List ℕ) (bits : ℕ) (msg string sheet question : List ℕ) where
+  pub call-bad-string : stringRule y bits ≡ false
+      → record { result = 2; state = s; string = string; sheet = sheet; question = question } ≡ rebuilderLeft s string sheet question (rebuilderOnBytes s y bits msg (roomsIn string sheet question))
+  unfolding rebuilderOnBytes packed
+  call-bad-string e = rw e refl
+
+  pub call-no-state : stringRule y bits ≡ true → (length s ≡ 564 → ⊥)
+      → record { result = 3; state = s; string = string; sheet = sheet; question = question } ≡ rebuilderLeft s string sheet question (rebuilderOnBytes s y bits msg (roomsIn string sheet question))
+  unfolding rebuilderOnBytes packed
+  call-no-state e f = rw (e, ne-eqb (length s) 564 f) refl
+
+  rebuilder-called : stringRule y bits ≡ true → length s ≡ 564
+      → rebuilderOnBytes s y bits msg (roomsIn string sheet question) ≡ rebuilderCall (rebuilderOf s) y bits msg (roomsIn string sheet question)
+  unfolding rebuilderOnBytes
+  rebuilder-called e f = rw (e, eq-eqb (length s) 564 f) refl
+
+-- the length of the question that an answer says
+abbrev saidSize : Answer (Option ℕ) → ℕ
+saidSize (value (some size)) = size
+saidSize (value none) = 0
+saidSize (refusal e) = 0
+
+abbrev askedSize : RebuilderAnswer → ℕ
+askedSize a = saidSize (callSaid a)
+
+next-size : (m : List ℕ) → saidSize (value (nextSize m)) ≡ length m
+next-size [] = refl
+next-size (b ∷ m) = refl
+
+-- what the call on the state says, as bytes
+module _ (s string sheet question string′ question′ : List ℕ) (st : Rebuilder) (out : RebuilderOut) where
+  said-declined : (t : Taken) (e : Refusal) → saidRebuilder out string′ question′ ≡ leavesRebuilder st string question t → out .answer ≡ Refused e
+      → record { result = packed (refusal (refusalNumber e)); state = s; string = string′; sheet = sheet; question = question′ } ≡ rebuilderLeft s string sheet question t
+  said-declined (refuses d) e k f =
+      let a : callSaid (out .answer) ≡ refusal (refusalNumber d) = ap (λ (w : RebuilderSaid). w .answer) k in
+      let i : callSaid (out .answer) ≡ refusal (refusalNumber e) = ap callSaid f in
+      let b : refusalNumber e ≡ refusalNumber d = cc in
+      let c : string′ ≡ string = ap (λ (w : RebuilderSaid). w .string) k in
+      let g : question′ ≡ question = ap (λ (w : RebuilderSaid). w .question) k in
+      rw (b, c, g) refl
+  said-declined (takes j m) e k f =
+      let a : callSaid (out .answer) ≡ value (nextSize m) = ap (λ (w : RebuilderSaid). w .answer) k in
+      let i : callSaid (out .answer) ≡ refusal (refusalNumber e) = ap callSaid f in
+      let z : _≡_ {A = ℕ} 0 1 = cc in absurd (omega arith)
+
+  said-taken : (t : Taken) (s′ sheet′ : List ℕ) → saidRebuilder out string′ question′ ≡ leavesRebuilder st string question t → ((v : ℕ) → callSaid (out .answer) ≡ refusal v → ⊥)
+      → s′ ≡ rebuilderBytes (out .state) → sheet′ ≡ sheetBytesAfter sheet (out .sheet)
+      → record { result = askedSize (out .answer) * 16; state = s′; string = string′; sheet = sheet′; question = question′ } ≡ rebuilderLeft s string sheet question t
+  unfolding packed
+  said-taken (refuses d) s′ sheet′ k n g h = absurd (n (refusalNumber d) (ap (λ (w : RebuilderSaid). w .answer) k))
+  said-taken (takes j m) s′ sheet′ k n g h =
+      let a : askedSize (out .answer) ≡ length m = ap (λ (w : RebuilderSaid). saidSize (w .answer)) k ∙ next-size m in
+      let b : out .state ≡ j .state = ap (λ (w : RebuilderSaid). w .state) k in
+      let c : out .sheet ≡ j .sheet = ap (λ (w : RebuilderSaid). w .sheet) k in
+      let d : string′ ≡ stringAfter string (j .string) = ap (λ (w : RebuilderSaid). w .string) k in
+      let f : question′ ≡ atFront m question = ap (λ (w : RebuilderSaid). w .question) k in
+      rw (a, g, b, h, c, d, f) refl
+
+  said-small : (t : Taken) → saidRebuilder out string′ question′ ≡ leavesRebuilder st string question t
+      → ((j : Step) (m : List ℕ) → t ≡ takes j m → length m ≤ 16) → askedSize (out .answer) ≤ 16
+  said-small (refuses d) k h = let c = ap (λ (w : RebuilderSaid). saidSize (w .answer)) k in omega arith
+  said-small (takes j m) k h = let c = ap (λ (w : RebuilderSaid). saidSize (w .answer)) k in let i = h j m refl in let l = next-size m in omega arith
+
+-- for the code: the answer's three cases; st is the state that was read
+module _ (s y : List ℕ) (bits : ℕ) (msg string sheet question string′ question′ : List ℕ) (st : Rebuilder) (out : RebuilderOut) (g : st ≡ rebuilderOf s)
+    (k : saidRebuilder out string′ question′ ≡ leavesRebuilder st string question (rebuilderCall st y bits msg (roomsIn string sheet question))) where
+  pub call-rows : 12 * rowsNeeded (out .sheet) ≤ length sheet
+  call-rows =
+      let r = change-fits st y bits msg (roomsIn string sheet question) string question string′ question′ out k in
+      omega arith
+
+  asked-small : askedSize (out .answer) ≤ 16
+  asked-small =
+      said-small s string sheet question string′ question′ st out (rebuilderCall st y bits msg (roomsIn string sheet question)) k
+      (λ j m t. taken-small st y bits msg (roomsIn string sheet question) j m t)
+
+  pub call-small : (size : ℕ) → out .answer ≡ Asks size → size ≤ 16
+  call-small size a = let b = ap askedSize a in let c = asked-small in omega arith
+
+  module _ (e : stringRule y bits ≡ true) (f : length s ≡ 564) where
+    called : rebuilderOnBytes s y bits msg (roomsIn string sheet question) ≡ rebuilderCall st y bits msg (roomsIn string sheet question)
+    called = rebuilder-called s y bits msg string sheet question e f ∙ ap (λ (z : Rebuilder). rebuilderCall z y bits msg (roomsIn string sheet question)) (sym g)
+
+    pub call-declined : (d : Refusal) (r : ℕ) → out .answer ≡ Refused d → r ≡ packed (refusal (refusalNumber d))
+        → record { result = r; state = s; string = string′; sheet = sheet; question = question′ } ≡ rebuilderLeft s string sheet question (rebuilderOnBytes s y bits msg (roomsIn string sheet question))
+    call-declined d r a h =
+        rw (called, h) (said-declined s string sheet question string′ question′ st out (rebuilderCall st y bits msg (roomsIn string sheet question)) d k a)
+
+    taken : (s′ sheet′ : List ℕ) (r : ℕ) → r ≡ askedSize (out .answer) * 16 → ((v : ℕ) → callSaid (out .answer) ≡ refusal v → ⊥) → s′ ≡ rebuilderBytes (out .state) ++ drop 564 s → sheet′ ≡ sheetBytesAfter sheet (out .sheet)
+        → record { result = r; state = s′; string = string′; sheet = sheet′; question = question′ } ≡ rebuilderLeft s string sheet question (rebuilderOnBytes s y bits msg (roomsIn string sheet question))
+    taken s′ sheet′ r a n h i =
+        let whole : rebuilderBytes (out .state) ++ drop 564 s ≡ rebuilderBytes (out .state)
+        = ap (λ (l : List ℕ). rebuilderBytes (out .state) ++ l) (drop-of-length-le s {i = 564} (let z = f in omega arith)) ∙ append-nil (rebuilderBytes (out .state)) in
+        rw (called, a) (said-taken s string sheet question string′ question′ st out (rebuilderCall st y bits msg (roomsIn string sheet question)) s′ sheet′ k n (h ∙ whole) i)
+
+    pub call-asks : (size r : ℕ) (s′ sheet′ : List ℕ) → out .answer ≡ Asks size → r ≡ size * 16 → s′ ≡ rebuilderBytes (out .state) ++ drop 564 s → sheet′ ≡ sheetBytesAfter sheet (out .sheet)
+        → record { result = r; state = s′; string = string′; sheet = sheet′; question = question′ } ≡ rebuilderLeft s string sheet question (rebuilderOnBytes s y bits msg (roomsIn string sheet question))
+    call-asks size r s′ sheet′ a h i j =
+        taken s′ sheet′ r (h ∙ ap (λ (n : ℕ). n * 16) (sym (ap askedSize a))) (λ v b. let c : value (some size) ≡ refusal v = sym (ap callSaid a) ∙ b in let z : _≡_ {A = ℕ} 0 1 = cc in omega arith) i j
+
+    pub call-finished : (r : ℕ) (s′ sheet′ : List ℕ) → out .answer ≡ Finished → r ≡ 0 → s′ ≡ rebuilderBytes (out .state) ++ drop 564 s → sheet′ ≡ sheetBytesAfter sheet (out .sheet)
+        → record { result = r; state = s′; string = string′; sheet = sheet′; question = question′ } ≡ rebuilderLeft s string sheet question (rebuilderOnBytes s y bits msg (roomsIn string sheet question))
+    call-finished r s′ sheet′ a h i j =
+        taken s′ sheet′ r (h ∙ ap (λ (n : ℕ). n * 16) (sym (ap askedSize a))) (λ v b. let c : value none ≡ refusal v = sym (ap callSaid a) ∙ b in let z : _≡_ {A = ℕ} 0 1 = cc in omega arith) i j
+
+-- ---- the returns of the start
+module _ (S : Settings) (y : List ℕ) (bits : ℕ) (s question : List ℕ) where
+  pub start-bad-setting : withinLimits S ≡ false
+      → record { result = 1; state = s; question = question } ≡ startLeft s question (startOnBytes S y bits (length s) (length question))
+  unfolding startOnBytes packed
+  start-bad-setting e = rw e refl
+
+  pub start-bad-string : withinLimits S ≡ true → stringRule y bits ≡ false
+      → record { result = 2; state = s; question = question } ≡ startLeft s question (startOnBytes S y bits (length s) (length question))
+  unfolding startOnBytes packed
+  start-bad-string e f = rw (e, f) refl
+
+  module _ (e : withinLimits S ≡ true) (f : stringRule y bits ≡ true) where
+    pub start-short : length s < 564
+        → record { result = 9; state = s; question = question } ≡ startLeft s question (startOnBytes S y bits (length s) (length question))
+    unfolding startOnBytes packed
+    start-short h = rw (e, f, lt-leb 564 (length s) h) refl
+
+    started : 564 ≤ length s → startOnBytes S y bits (length s) (length question) ≡ rebuilderStart S y bits (length question)
+    unfolding startOnBytes
+    started h = rw (e, f, le-leb 564 (length s) h) refl
+
+module _ (s question question′ : List ℕ) (out : StartOut) where
+  start-declines : (t : Started) (e : Refusal) → saidStart out question′ ≡ leavesStart question t → out .answer ≡ NotBegun e
+      → record { result = packed (refusal (refusalNumber e)); state = s; question = question′ } ≡ startLeft s question t
+  start-declines (startDeclines d) e k f =
+      let a : startSaid (out .answer) ≡ refusal (refusalNumber d) = ap (λ (w : StartSaid). w .answer) k in
+      let i : startSaid (out .answer) ≡ refusal (refusalNumber e) = ap startSaid f in
+      let b : refusalNumber e ≡ refusalNumber d = cc in
+      let g : question′ ≡ question = ap (λ (w : StartSaid). w .question) k in
+      rw (b, g) refl
+  start-declines (starts st m) e k f =
+      let a : startSaid (out .answer) ≡ value (length m) = ap (λ (w : StartSaid). w .answer) k in
+      let i : startSaid (out .answer) ≡ refusal (refusalNumber e) = ap startSaid f in
+      let z : _≡_ {A = ℕ} 0 1 = cc in absurd (omega arith)
+
+  start-begins : (t : Started) (size : ℕ) (s′ : List ℕ) → saidStart out question′ ≡ leavesStart question t → out .answer ≡ Begun size
+      → s′ ≡ rebuilderBytes (out .state) ++ drop 564 s
+      → record { result = size * 16; state = s′; question = question′ } ≡ startLeft s question t
+  unfolding packed
+  start-begins (startDeclines d) size s′ k f g =
+      let a : startSaid (out .answer) ≡ refusal (refusalNumber d) = ap (λ (w : StartSaid). w .answer) k in
+      let i : startSaid (out .answer) ≡ value size = ap startSaid f in
+      let z : _≡_ {A = ℕ} 0 1 = cc in absurd (omega arith)
+  start-begins (starts st m) size s′ k f g =
+      let a : startSaid (out .answer) ≡ value (length m) = ap (λ (w : StartSaid). w .answer) k in
+      let j : startSaid (out .answer) ≡ value size = ap startSaid f in
+      let b : size ≡ length m = cc in
+      let c : out .state ≡ st = ap (λ (w : StartSaid). w .state) k in
+      let d : question′ ≡ atFront m question = ap (λ (w : StartSaid). w .question) k in
+      let h : s′ ≡ atFront (rebuilderBytes st) s
+      = g ∙ ap (λ (z : Rebuilder). rebuilderBytes z ++ drop 564 s) c ∙ ap (λ (n : ℕ). rebuilderBytes st ++ drop n s) (sym (length-rebuilder st)) in
+      rw (b, h, d) refl
+
+  start-size : (t : Started) (size : ℕ) → saidStart out question′ ≡ leavesStart question t → out .answer ≡ Begun size
+      → ((st : Rebuilder) (m : List ℕ) → t ≡ starts st m → length m ≤ 16) → size ≤ 16
+  start-size (startDeclines d) size k f h =
+      let a : startSaid (out .answer) ≡ refusal (refusalNumber d) = ap (λ (w : StartSaid). w .answer) k in
+      let i : startSaid (out .answer) ≡ value size = ap startSaid f in
+      let z : _≡_ {A = ℕ} 0 1 = cc in absurd (omega arith)
+  start-size (starts st m) size k f h =
+      let a : startSaid (out .answer) ≡ value (length m) = ap (λ (w : StartSaid). w .answer) k in
+      let j : startSaid (out .answer) ≡ value size = ap startSaid f in
+      let b : size ≡ length m = cc in
+      let i = h st m refl in omega arith
+
+-- for the code: the answer's two cases; the settings were given as a struct
+module _ (S : Settings) {given : Settings} (same : given ≡ S) (y : List ℕ) (bits : ℕ) (s question question′ : List ℕ) (out : StartOut)
+    (said : saidStart out question′ ≡ leavesStart question (rebuilderStart given y bits (length question))) where
+  k : saidStart out question′ ≡ leavesStart question (rebuilderStart S y bits (length question))
+  k = said ∙ ap (λ (z : Settings). leavesStart question (rebuilderStart z y bits (length question))) same
+
+  pub start-small : (size : ℕ) → out .answer ≡ Begun size → size ≤ 16
+  start-small size a =
+      start-size s question question′ out (rebuilderStart S y bits (length question)) size k a
+      (λ st m t. rw (started-is S y bits (length question) st m t .question) (question-most (AskOpen (S .h) (S .key))))
+
+  module _ (e : withinLimits S ≡ true) (f : stringRule y bits ≡ true) (h : 564 ≤ length s) where
+    pub start-declined : (d : Refusal) (r : ℕ) → out .answer ≡ NotBegun d → r ≡ packed (refusal (refusalNumber d))
+        → record { result = r; state = s; question = question′ } ≡ startLeft s question (startOnBytes S y bits (length s) (length question))
+    start-declined d r a i = rw (started S y bits s question e f h, i) (start-declines s question question′ out (rebuilderStart S y bits (length question)) d k a)
+
+    pub start-begun : (size : ℕ) (s′ : List ℕ) → out .answer ≡ Begun size → s′ ≡ rebuilderBytes (out .state) ++ drop 564 s
+        → record { result = size * 16; state = s′; question = question′ } ≡ startLeft s question (startOnBytes S y bits (length s) (length question))
+    start-begun size s′ a i = rw (started S y bits s question e f h) (start-begins s question question′ out (rebuilderStart S y bits (length question)) size s′ k a i)

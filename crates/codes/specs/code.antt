@@ -1,0 +1,4 @@
+-- What internal functions give and require: the terms of their contracts.
+pub mod Place
+pub mod Edits
+pub mod HashForms

@@ -1,0 +1,8 @@
+-- Laws of the definitions, for proofs.
+pub mod SyndromeLaws
+pub mod RepairLaws
+pub mod PlaceLaws
+pub mod EditLaws
+pub mod HashLaws
+pub mod EntryLaws
+pub mod Collision

@@ -1,0 +1,104 @@
+-- Laws of the lines of X and Y, as the code meets them.
+use mathlib.Core.Path.{_≡_, refl, sym, ap, ap₂, _∙_}
+use mathlib.Core.Bool.{Bool, true, false}
+use mathlib.Core.List.{List, [], _∷_, _++_}
+use Prim.Native.Nat.{ℕ, suc, _+_, _≤_, _<_}
+use native.Mathlib.Nat.{zero-add}
+use native.Mathlib.Numerals.{add-one}
+use native.Mathlib.Omega.{arith}
+use lib.ListN.{length, getD, drop, drop-of-length-le}
+use lib.Seq.{drop-cons, sets-eq}
+use lib.Dec.{eqb}
+use borrow.Author.Tests.{eq-eqb, ne-eqb, lt-leb, le-leb}
+use Rattle.strings.specs.Bits.{bytesFor, pack, setBit, writeBits, cleared}
+use Rattle.strings.specs.laws.WriteLaws.{write-none, write-next}
+use Rattle.strings.specs.laws.PackLaws.{length-pack, write-cleared}
+use Rattle.lines.specs.declared.FieldFound.{FieldFound}
+use Rattle.lines.specs.declared.FieldFound.the-variants.{At, Missing}
+use Rattle.lines.specs.declared.StringRead.the-variants.{Bits, NotBits, NoRoom}
+use Rattle.lines.specs.Fields.{field, bytesBetween}
+use Rattle.lines.specs.StringLine.{isBit, allBits, bitsOf, leaves, stringInto, stringIn}
+
+pub bit-zero : (x : ℕ) → x ≡ 48 → true ≡ isBit x
+unfolding isBit
+bit-zero x h = rw (eq-eqb x 48 h) refl
+
+pub bit-one : (x : ℕ) → (x ≡ 48 → ⊥) → eqb x 49 ≡ isBit x
+unfolding isBit
+bit-one x h = rw (ne-eqb x 48 h) refl
+
+-- ---- a line checked byte by byte
+module _ (s : List ℕ) (i : ℕ) where
+  module _ (h : i < length s) {t : Bool} (d : t ≡ isBit (getD s i 0)) where
+    pub bits-other : t ≡ false → false ≡ allBits (drop i s)
+    unfolding allBits
+    bits-other e = rw (drop-cons s i 0 h, ← d, e) refl
+
+    pub bits-next : t ≡ true → allBits (drop (i + 1) s) ≡ allBits (drop i s)
+    unfolding allBits
+    bits-next e = rw (drop-cons s i 0 h, ← d, e, add-one) refl
+
+  pub bits-last : length s ≤ i → true ≡ allBits (drop i s)
+  unfolding allBits
+  bits-last h = rw (drop-of-length-le s {i = i} h) refl
+
+  -- ---- and written bit by bit
+  pub line-next : (t t′ u : List ℕ) → i < length s → t′ ≡ setBit t i (eqb (getD s i 0) 49) → writeBits t i (bitsOf (drop i s)) ≡ u → writeBits t′ (i + 1) (bitsOf (drop (i + 1) s)) ≡ u
+  unfolding bitsOf
+  line-next t t′ u h e f =
+      ap₂ (λ (x : List ℕ) (k : ℕ). writeBits x (i + 1) (bitsOf (drop k s))) e (add-one i)
+      ∙ sym (write-next t i (eqb (getD s i 0) 49) (bitsOf (drop (suc i) s)))
+      ∙ ap (λ (l : List ℕ). writeBits t i (bitsOf l)) (sym (drop-cons s i 0 h))
+      ∙ f
+
+  pub line-last : (t u : List ℕ) → length s ≤ i → writeBits t i (bitsOf (drop i s)) ≡ u → t ≡ u
+  unfolding bitsOf
+  line-last t u h f = sym (write-none t i) ∙ ap (λ (l : List ℕ). writeBits t i (bitsOf l)) (sym (drop-of-length-le s {i = i} h)) ∙ f
+
+pub length-bits : (l : List ℕ) → length (bitsOf l) ≡ length l
+unfolding bitsOf
+length-bits [] = refl
+length-bits (x ∷ l) = ap suc (length-bits l)
+
+-- ---- the string of a line
+module _ (line buf : List ℕ) where
+  pub string-long : 65536 < length line → leaves NotBits buf ≡ stringInto line buf
+  unfolding stringInto
+  string-long h = rw (lt-leb (length line) 65536 h) refl
+
+  module _ (few : length line ≤ 65536) {t : Bool} (d : t ≡ allBits line) where
+    pub string-other : t ≡ false → leaves NotBits buf ≡ stringInto line buf
+    unfolding stringInto
+    string-other e = rw (le-leb (length line) 65536 few, ← d, e) refl
+
+    pub string-short : t ≡ true → length buf < bytesFor (length line) → leaves NoRoom buf ≡ stringInto line buf
+    unfolding stringInto
+    string-short e h = rw (le-leb (length line) 65536 few, ← d, e, lt-leb (bytesFor (length line)) (length buf) h) refl
+
+    pub string-packed : t ≡ true → bytesFor (length line) ≤ length buf → (u w : List ℕ) → u ≡ cleared buf 0 (bytesFor (length line)) → w ≡ writeBits u 0 (bitsOf line)
+        → leaves (Bits (length line)) w ≡ stringInto line buf
+    unfolding stringInto
+    string-packed e h u w f g =
+        rw (le-leb (length line) 65536 few, ← d, e, le-leb (bytesFor (length line)) (length buf) h) (ap (leaves (Bits (length line))) whole)
+      where
+        n : length (bitsOf line) ≡ length line
+        n = length-bits line
+
+        whole : w ≡ pack (bitsOf line) ++ drop (bytesFor (length line)) buf
+        whole =
+            let p = length-pack (bitsOf line) in
+            let k : 0 + length (pack (bitsOf line)) ≡ bytesFor (length line) = rw (p, n) (zero-add (bytesFor (length line))) in
+            g
+            ∙ ap (λ (l : List ℕ). writeBits l 0 (bitsOf line)) (f ∙ ap (λ (m : ℕ). cleared buf 0 (bytesFor m)) (sym n))
+            ∙ write-cleared buf 0 (bitsOf line) (omega arith)
+            ∙ sets-eq (pack (bitsOf line)) buf 0 (omega arith)
+            ∙ ap (λ (m : ℕ). pack (bitsOf line) ++ drop m buf) k
+
+module _ (input buf : List ℕ) (i : ℕ) {r : FieldFound} (p : r ≡ field 10 i input) where
+  pub string-missing : r ≡ Missing → leaves NotBits buf ≡ stringIn input i buf
+  unfolding stringIn
+  string-missing q = rw (← p, q) refl
+
+  pub string-found : (a b : ℕ) → r ≡ At a b → stringInto (bytesBetween a b input) buf ≡ stringIn input i buf
+  unfolding stringIn
+  string-found a b q = rw (← p, q) refl

@@ -1,0 +1,6 @@
+-- Laws of the definitions, for proofs.
+pub mod NumberLaws
+pub mod KindLaws
+pub mod QuestionLaws
+pub mod AnswerLaws
+pub mod WritingLaws

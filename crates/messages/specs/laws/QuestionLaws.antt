@@ -1,0 +1,347 @@
+-- Laws of questions: lengths, reading what was written, and that nothing else is read to a question.
+use mathlib.Core.Path.{_≡_, refl, sym, ap, ap₂, _∙_}
+use mathlib.Core.Bool.{Bool, true, false, not}
+use mathlib.Core.List.{List, _++_}
+use Prim.Native.Nat.{ℕ, _+_, _≤_, _<_}
+use native.Mathlib.Omega.{arith}
+use lib.ListN.{length, drop, length-append}
+use lib.Seq.{drop-at}
+use lib.Dec.{ltb, eqb}
+use borrow.Author.Tests.{le-ltb, ltb-false, eqb-true, not-false}
+use Rattle.strings.specs.laws.PackLaws.{Bytes}
+use Rattle.strings.specs.declared.Refusal.{Refusal}
+use Rattle.messages.specs.declared.Kind.{Kind}
+use Rattle.messages.specs.declared.Kind.the-variants.{Open, Hash, Syndrome, Bits}
+use Rattle.messages.specs.declared.NumberRead.{NumberRead}
+use Rattle.messages.specs.declared.NumberRead.the-variants.{Value, NoNumber}
+use Rattle.messages.specs.declared.KindRead.{KindRead}
+use Rattle.messages.specs.declared.KindRead.the-variants.{Known, NoKind}
+use Rattle.messages.specs.declared.Question.{Question}
+use Rattle.messages.specs.declared.Question.the-variants.{AskOpen, AskHash, AskSyndrome, AskBits}
+use Rattle.messages.specs.declared.QuestionRead.{QuestionRead}
+use Rattle.messages.specs.declared.QuestionRead.the-variants.{Asked, NoQuestion}
+use Rattle.messages.specs.Numbers.{number, numberAt}
+use Rattle.messages.specs.laws.NumberLaws.{number-reads, number-reads-last, number-form, number-form-last, drop-past, ends-there, size-last, size-some, size-most, size-short}
+use Rattle.messages.specs.Kinds.{kindNumber, kindAt}
+use Rattle.messages.specs.laws.KindLaws.{kind-size, kind-reads, kind-form}
+use Rattle.messages.specs.Questions.{questionKind, asking, questionBytes, thenAsk, noQuestionIf, openingIn, openingAt, rangeIn, rangeAt, fieldsAt, thenFields, readQuestion}
+
+-- ---- the limits of 01: h 8 to 32, key 1 to 2^32 - 1; a range of 1 bit or more that ends by n
+pub record OpeningWithin (h key : ℕ) : Type 0 where
+  pub h-least : 8 ≤ h
+  pub h-most : h ≤ 32
+  pub key-least : 1 ≤ key
+
+pub record RangeWithin (n start len : ℕ) : Type 0 where
+  pub some : 1 ≤ len
+  pub ends : start + len ≤ n
+
+abbrev pub Within : ℕ → Question → Type 0
+Within n (AskOpen h key) = OpeningWithin h key
+Within n (AskHash start len) = RangeWithin n start len
+Within n (AskSyndrome start len) = RangeWithin n start len
+Within n (AskBits start len) = RangeWithin n start len
+
+abbrev pub keyOf : Question → ℕ
+keyOf (AskOpen h key) = key
+keyOf (AskHash start len) = 0
+keyOf (AskSyndrome start len) = 0
+keyOf (AskBits start len) = 0
+
+pub record InRange (n : ℕ) (q : Question) : Type 0 where
+  pub within : Within n q
+  pub key-most : keyOf q < 4294967296
+
+-- ---- a question's bytes: its kind, then its fields
+abbrev pub fieldBytes : Question → List ℕ
+fieldBytes (AskOpen h key) = number 1 ++ (number h ++ number key)
+fieldBytes (AskHash start len) = number start ++ number len
+fieldBytes (AskSyndrome start len) = number start ++ number len
+fieldBytes (AskBits start len) = number start ++ number len
+
+pub question-parts : (q : Question) → questionBytes q ≡ number (kindNumber (questionKind q)) ++ fieldBytes q
+unfolding questionBytes
+question-parts (AskOpen h key) = refl
+question-parts (AskHash start len) = refl
+question-parts (AskSyndrome start len) = refl
+question-parts (AskBits start len) = refl
+
+-- ---- lengths: 3 to 8 bytes
+range-size : (n start len : ℕ) → n ≤ 65536 → RangeWithin n start len → (length (number start ++ number len) ≤ 6) × (2 ≤ length (number start ++ number len))
+range-size n start len m r =
+    let x = r .ends in
+    let a = size-short start (omega arith) in
+    let b = size-short len (omega arith) in
+    let c = size-some start in
+    let d = size-some len in
+    let e = length-append (number start) (number len) in
+    (omega arith, omega arith)
+
+field-size : (n : ℕ) (q : Question) → n ≤ 65536 → InRange n q → (length (fieldBytes q) ≤ 7) × (2 ≤ length (fieldBytes q))
+field-size n (AskOpen h key) m r =
+    let x = r .within .h-most in
+    let a = size-last 1 (omega arith) in
+    let b = size-last h (omega arith) in
+    let c = size-most key in
+    let d = length-append (number 1) (number h ++ number key) in
+    let e = length-append (number h) (number key) in
+    (omega arith, omega arith)
+field-size n (AskHash start len) m r = let h = range-size n start len m (r .within) in (omega arith, h .1)
+field-size n (AskSyndrome start len) m r = let h = range-size n start len m (r .within) in (omega arith, h .1)
+field-size n (AskBits start len) m r = let h = range-size n start len m (r .within) in (omega arith, h .1)
+
+pub question-size : (n : ℕ) (q : Question) → n ≤ 65536 → InRange n q → length (questionBytes q) ≤ 8
+question-size n q m r =
+    let h = field-size n q m r in
+    let e = length-append (number (kindNumber (questionKind q))) (fieldBytes q) in
+    let k = kind-size (questionKind q) in
+    let p = ap length (question-parts q) in
+    omega arith
+
+-- ---- as the code meets them: r is what a number reader gave
+module _ (s : List ℕ) (at : ℕ) {r : NumberRead} (p : r ≡ numberAt s at) where
+  pub opening-none : {e : Refusal} → r ≡ NoNumber e → NoQuestion e ≡ openingAt s at
+  unfolding openingAt
+  opening-none q = rw (← p, q) refl
+
+  pub range-none : (ask : ℕ → ℕ → Question) (n : ℕ) {e : Refusal} → r ≡ NoNumber e → NoQuestion e ≡ rangeAt ask s at n
+  unfolding rangeAt
+  range-none ask n q = rw (← p, q) refl
+
+  module _ {v b : ℕ} (q : r ≡ Value v b) {r₂ : NumberRead} (p₂ : r₂ ≡ numberAt s b) where
+    pub opening-one : {e : Refusal} → r₂ ≡ NoNumber e → NoQuestion e ≡ openingAt s at
+    unfolding openingAt
+    opening-one q₂ = rw (← p, q, ← p₂, q₂) refl
+
+    pub range-one : (ask : ℕ → ℕ → Question) (n : ℕ) {e : Refusal} → r₂ ≡ NoNumber e → NoQuestion e ≡ rangeAt ask s at n
+    unfolding rangeAt
+    range-one ask n q₂ = rw (← p, q, ← p₂, q₂) refl
+
+    pub range-two : (ask : ℕ → ℕ → Question) (n : ℕ) {len end : ℕ} → r₂ ≡ Value len end → rangeAt ask s at n ≡ rangeIn ask (length s) n v len end
+    unfolding rangeAt
+    range-two ask n q₂ = rw (← p, q, ← p₂, q₂) refl
+
+    module _ {h c : ℕ} (q₂ : r₂ ≡ Value h c) {r₃ : NumberRead} (p₃ : r₃ ≡ numberAt s c) where
+      pub opening-two : {e : Refusal} → r₃ ≡ NoNumber e → NoQuestion e ≡ openingAt s at
+      unfolding openingAt
+      opening-two q₃ = rw (← p, q, ← p₂, q₂, ← p₃, q₃) refl
+
+      pub opening-three : {key end : ℕ} → r₃ ≡ Value key end → openingAt s at ≡ openingIn (length s) v h key end
+      unfolding openingAt
+      opening-three q₃ = rw (← p, q, ← p₂, q₂, ← p₃, q₃) refl
+
+-- the fields of a known kind
+module _ (s : List ℕ) (at n : ℕ) {k : Kind} where
+  pub fields-opening : k ≡ Open → openingAt s at ≡ fieldsAt k s at n
+  unfolding fieldsAt
+  fields-opening e = rw e refl
+
+  pub fields-hash : k ≡ Hash → rangeAt (asking k) s at n ≡ fieldsAt k s at n
+  unfolding fieldsAt
+  fields-hash e = rw e refl
+
+  pub fields-syndrome : k ≡ Syndrome → rangeAt (asking k) s at n ≡ fieldsAt k s at n
+  unfolding fieldsAt
+  fields-syndrome e = rw e refl
+
+  pub fields-bits : k ≡ Bits → rangeAt (asking k) s at n ≡ fieldsAt k s at n
+  unfolding fieldsAt
+  fields-bits e = rw e refl
+
+-- ---- what was written is read, wherever the fields stand
+pub opening-reads : (s : List ℕ) (at h key : ℕ) → OpeningWithin h key → key < 4294967296 → drop at s ≡ number 1 ++ (number h ++ number key) → openingAt s at ≡ Asked (AskOpen h key)
+opening-reads s at h key w m d =
+    let x = w .h-most in
+    let b = at + length (number 1) in
+    let c = b + length (number h) in
+    let d₁ = drop-past s (number 1) (number h ++ number key) at d in
+    let d₂ = drop-past s (number h) (number key) b d₁ in
+    let e = length-append (number 1) (number h ++ number key) in
+    let f = length-append (number h) (number key) in
+    let z = size-some 1 in
+    let l = ends-there s (number 1 ++ (number h ++ number key)) at d (omega arith) in
+    opening-three s at refl (number-reads s (number h ++ number key) at 1 (omega arith) d) refl (number-reads s (number key) b h (omega arith) d₁) refl (number-reads-last s c key m d₂)
+    ∙ rw (le-ltb (c + length (number key)) (length s) (omega arith), le-ltb h 8 (w .h-least), le-ltb 32 h (w .h-most), le-ltb key 1 (w .key-least)) refl
+
+pub range-reads : (ask : ℕ → ℕ → Question) (s : List ℕ) (at n start len : ℕ) → n ≤ 65536 → RangeWithin n start len → drop at s ≡ number start ++ number len → rangeAt ask s at n ≡ Asked (ask start len)
+range-reads ask s at n start len m w d =
+    let x = w .ends in
+    let b = at + length (number start) in
+    let d₁ = drop-past s (number start) (number len) at d in
+    let e = length-append (number start) (number len) in
+    let z = size-some start in
+    let l = ends-there s (number start ++ number len) at d (omega arith) in
+    range-two s at refl (number-reads s (number len) at start (omega arith) d) refl ask n (number-reads-last s b len (omega arith) d₁)
+    ∙ rw (le-ltb (b + length (number len)) (length s) (omega arith), le-ltb len 1 (w .some), le-ltb n (start + len) x) refl
+
+pub fields-read : (q : Question) (s : List ℕ) (at n : ℕ) → n ≤ 65536 → InRange n q → drop at s ≡ fieldBytes q → fieldsAt (questionKind q) s at n ≡ Asked q
+unfolding fieldsAt
+fields-read (AskOpen h key) s at n m r d = opening-reads s at h key (r .within) (r .key-most) d
+fields-read (AskHash start len) s at n m r d = range-reads AskHash s at n start len m (r .within) d
+fields-read (AskSyndrome start len) s at n m r d = range-reads AskSyndrome s at n start len m (r .within) d
+fields-read (AskBits start len) s at n m r d = range-reads AskBits s at n start len m (r .within) d
+
+pub question-kind-reads : (q : Question) → kindAt (questionBytes q) ≡ Known (questionKind q) 1
+question-kind-reads q = ap kindAt (question-parts q) ∙ kind-reads (questionKind q) (fieldBytes q)
+
+pub question-fields-read : (q : Question) (n : ℕ) → n ≤ 65536 → InRange n q → fieldsAt (questionKind q) (questionBytes q) 1 n ≡ Asked q
+question-fields-read q n m r =
+    let k = number (kindNumber (questionKind q)) in
+    fields-read q (questionBytes q) 1 n m r (ap (drop 1) (question-parts q) ∙ drop-at k (fieldBytes q) 1 (kind-size (questionKind q)))
+
+-- once the kind is known the rest is read as its fields
+pub question-known : (s : List ℕ) (n : ℕ) {k : Kind} {at : ℕ} → kindAt s ≡ Known k at → readQuestion s n ≡ fieldsAt k s at n
+unfolding readQuestion
+question-known s n e = rw e refl
+
+pub question-reads : (q : Question) (n : ℕ) → n ≤ 65536 → InRange n q → readQuestion (questionBytes q) n ≡ Asked q
+question-reads q n m r = question-known (questionBytes q) n (question-kind-reads q) ∙ question-fields-read q n m r
+
+-- ---- what is read to a question is in range
+asked-then : {G : Type 0} (q : Question) (r : NumberRead) (f : ℕ → ℕ → QuestionRead) → ((v b : ℕ) → r ≡ Value v b → f v b ≡ Asked q → G) → thenAsk r f ≡ Asked q → G
+asked-then q (Value v b) f g e = g v b refl e
+asked-then q (NoNumber x) f g e = let z : _≡_ {A = ℕ} 0 1 = cc in absurd (omega arith)
+
+asked-if : {G : Type 0} (q : Question) (t : Bool) (x : Refusal) (a : QuestionRead) → (t ≡ false → a ≡ Asked q → G) → noQuestionIf t x a ≡ Asked q → G
+asked-if q true x a g e = let z : _≡_ {A = ℕ} 0 1 = cc in absurd (omega arith)
+asked-if q false x a g e = g refl e
+
+asked-is : {p q : Question} → Asked p ≡ Asked q → p ≡ q
+asked-is {p} {q} e = cc
+
+-- the numbers that an opening was read from
+record OpeningRead (s : List ℕ) (at : ℕ) (q : Question) : Type 0 where
+  h : ℕ
+  key : ℕ
+  b : ℕ
+  c : ℕ
+  end : ℕ
+  first : numberAt s at ≡ Value 1 b
+  second : numberAt s b ≡ Value h c
+  third : numberAt s c ≡ Value key end
+  nothing : length s ≤ end
+  within : OpeningWithin h key
+  is : AskOpen h key ≡ q
+
+opening-read : (s : List ℕ) (at : ℕ) (q : Question) → openingAt s at ≡ Asked q → OpeningRead s at q
+unfolding openingAt
+opening-read s at q =
+    asked-then q (numberAt s at) _ (λ version b e₁.
+    asked-then q (numberAt s b) _ (λ h c e₂.
+    asked-then q (numberAt s c) _ (λ key end e₃.
+    asked-if q (ltb end (length s)) _ _ (λ t₁.
+    asked-if q (not (eqb version 1)) _ _ (λ t₂.
+    asked-if q (ltb h 8) _ _ (λ t₃.
+    asked-if q (ltb 32 h) _ _ (λ t₄.
+    asked-if q (ltb key 1) _ _ (λ t₅ e.
+    record {
+      h = h;
+      key = key;
+      b = b;
+      c = c;
+      end = end;
+      first = e₁ ∙ ap (λ (v : ℕ). Value v b) (eqb-true version 1 (not-false (eqb version 1) t₂));
+      second = e₂;
+      third = e₃;
+      nothing = ltb-false end (length s) t₁;
+      within = record { h-least = ltb-false h 8 t₃; h-most = ltb-false 32 h t₄; key-least = ltb-false key 1 t₅ };
+      is = asked-is e;
+    }))))))))
+
+-- the numbers that a range was read from
+record RangeRead (ask : ℕ → ℕ → Question) (s : List ℕ) (at n : ℕ) (q : Question) : Type 0 where
+  start : ℕ
+  len : ℕ
+  b : ℕ
+  end : ℕ
+  first : numberAt s at ≡ Value start b
+  second : numberAt s b ≡ Value len end
+  nothing : length s ≤ end
+  within : RangeWithin n start len
+  is : ask start len ≡ q
+
+range-read : (ask : ℕ → ℕ → Question) (s : List ℕ) (at n : ℕ) (q : Question) → rangeAt ask s at n ≡ Asked q → RangeRead ask s at n q
+unfolding rangeAt
+range-read ask s at n q =
+    asked-then q (numberAt s at) _ (λ start b e₁.
+    asked-then q (numberAt s b) _ (λ len end e₂.
+    asked-if q (ltb end (length s)) _ _ (λ t₁.
+    asked-if q (ltb len 1) _ _ (λ t₂.
+    asked-if q (ltb n (start + len)) _ _ (λ t₃ e.
+    record {
+      start = start;
+      len = len;
+      b = b;
+      end = end;
+      first = e₁;
+      second = e₂;
+      nothing = ltb-false end (length s) t₁;
+      within = record { some = ltb-false len 1 t₂; ends = ltb-false n (start + len) t₃ };
+      is = asked-is e;
+    })))))
+
+-- the question has the kind that was read, within 01's limits
+pub fields-within : (k : Kind) (s : List ℕ) (at n : ℕ) (q : Question) → fieldsAt k s at n ≡ Asked q → (questionKind q ≡ k) × Within n q
+unfolding fieldsAt
+fields-within Open s at n q e = let r = opening-read s at q e in rw (← r .is) (refl, r .within)
+fields-within Hash s at n q e = let r = range-read AskHash s at n q e in rw (← r .is) (refl, r .within)
+fields-within Syndrome s at n q e = let r = range-read AskSyndrome s at n q e in rw (← r .is) (refl, r .within)
+fields-within Bits s at n q e = let r = range-read AskBits s at n q e in rw (← r .is) (refl, r .within)
+
+-- ---- nothing else is read to a question
+pub record FieldsOf (k : Kind) (s : List ℕ) (at n : ℕ) (q : Question) : Type 0 where
+  pub kind : questionKind q ≡ k
+  pub range : InRange n q
+  pub bytes : drop at s ≡ fieldBytes q
+
+module _ (s : List ℕ) (bytes : Bytes s) where
+  range-form : (ask : ℕ → ℕ → Question) (at n : ℕ) (q : Question) (r : RangeRead ask s at n q) → drop at s ≡ number (r .start) ++ number (r .len)
+  range-form ask at n q r =
+      number-form s at (r .start) (r .b) bytes (r .first) .stands ∙ ap (λ (l : List ℕ). number (r .start) ++ l) (number-form-last s (r .b) (r .len) (r .end) bytes (r .second) (r .nothing))
+
+  pub fields-form : (k : Kind) (at n : ℕ) (q : Question) → fieldsAt k s at n ≡ Asked q → FieldsOf k s at n q
+  unfolding fieldsAt
+  fields-form Open at n q e =
+      let r = opening-read s at q e in
+      rw (← r .is) (record {
+        kind = refl;
+        range = record { within = r .within; key-most = number-form s (r .c) (r .key) (r .end) bytes (r .third) .small };
+        bytes = number-form s at 1 (r .b) bytes (r .first) .stands
+            ∙ ap (λ (l : List ℕ). number 1 ++ l) (number-form s (r .b) (r .h) (r .c) bytes (r .second) .stands ∙ ap (λ (l : List ℕ). number (r .h) ++ l) (number-form-last s (r .c) (r .key) (r .end) bytes (r .third) (r .nothing)));
+      })
+  fields-form Hash at n q e =
+      let r = range-read AskHash s at n q e in
+      rw (← r .is) (record { kind = refl; range = record { within = r .within; key-most = omega arith }; bytes = range-form AskHash at n q r })
+  fields-form Syndrome at n q e =
+      let r = range-read AskSyndrome s at n q e in
+      rw (← r .is) (record { kind = refl; range = record { within = r .within; key-most = omega arith }; bytes = range-form AskSyndrome at n q r })
+  fields-form Bits at n q e =
+      let r = range-read AskBits s at n q e in
+      rw (← r .is) (record { kind = refl; range = record { within = r .within; key-most = omega arith }; bytes = range-form AskBits at n q r })
+
+-- what a message that is read to a question is
+pub record IsQuestion (s : List ℕ) (n : ℕ) (q : Question) : Type 0 where
+  pub range : InRange n q
+  pub bytes : s ≡ questionBytes q
+
+-- a question that was read had a kind
+pub question-kind : (s : List ℕ) (n : ℕ) (q : Question) {G : Type 0} → readQuestion s n ≡ Asked q → ((k : Kind) (at : ℕ) → kindAt s ≡ Known k at → fieldsAt k s at n ≡ Asked q → G) → G
+unfolding readQuestion
+question-kind s n q {G} e g = go (kindAt s) refl e
+  where
+    go : (r : KindRead) → kindAt s ≡ r → thenFields r s n ≡ Asked q → G
+    go (Known k at) f e = g k at f e
+    go (NoKind x) f e = let z : _≡_ {A = ℕ} 0 1 = cc in absurd (omega arith)
+
+pub question-form : (s : List ℕ) (n : ℕ) (q : Question) → Bytes s → readQuestion s n ≡ Asked q → IsQuestion s n q
+question-form s n q bytes e = question-kind s n q e (λ k at f g.
+    let i = kind-form s k at bytes f in
+    let r = fields-form s bytes k at n q g in
+    record {
+      range = r .range;
+      bytes = i .begins ∙ ap₂ (λ (x : Kind) (l : List ℕ). number (kindNumber x) ++ l) (sym (r .kind)) (ap (λ (j : ℕ). drop j s) (sym (i .one)) ∙ r .bytes) ∙ sym (question-parts q);
+    })
+
+-- so two messages that are read to the same question are the same
+pub question-one : (s t : List ℕ) (n : ℕ) (q : Question) → Bytes s → Bytes t → readQuestion s n ≡ Asked q → readQuestion t n ≡ Asked q → s ≡ t
+question-one s t n q h k e f = question-form s n q h e .bytes ∙ sym (question-form t n q k f .bytes)

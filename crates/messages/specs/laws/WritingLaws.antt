@@ -1,0 +1,105 @@
+-- Laws of writing messages: parts written one behind the other are the whole, and the two cases of a lent buffer.
+use mathlib.Core.Path.{_≡_, refl, sym, ap, _∙_}
+use mathlib.Core.List.{List, [], _∷_, _++_, append-nil, append-assoc}
+use Prim.Native.Nat.{ℕ, suc, _+_, _-_, _≤_, _<_}
+use native.Mathlib.Nat.{zero-add, add-zero}
+use native.Mathlib.Omega.{arith}
+use lib.ListN.{length, set, take, drop, length-append, length-drop, drop-of-length-le}
+use lib.Seq.{sets, sets-eq, take-all, drop-drop}
+use borrow.Author.Tests.{lt-ltb, le-ltb}
+use Rattle.strings.specs.Bits.{range, bytesFor, pack, cleared, writeBits}
+use Rattle.strings.specs.laws.RangeLaws.{range-length}
+use Rattle.strings.specs.laws.PackLaws.{write-cleared}
+use Rattle.messages.specs.declared.WriteResult.the-variants.{Written, TooShort}
+use Rattle.messages.specs.Writing.{leaves, putFront}
+
+module _ (m buf : List ℕ) where
+  pub put-short : length buf < length m → leaves TooShort buf ≡ putFront m buf
+  unfolding putFront
+  put-short h = rw (lt-ltb (length buf) (length m) h) refl
+
+  pub put-whole : {n : ℕ} {t : List ℕ} → length m ≤ length buf → n ≡ length m → t ≡ sets buf 0 m → leaves (Written n) t ≡ putFront m buf
+  unfolding putFront
+  put-whole h e f = rw (le-ltb (length buf) (length m) h, e, f, sets-eq m buf 0 (omega arith), zero-add) refl
+
+pub sets-append : (s l m : List ℕ) (i : ℕ) → sets s i (l ++ m) ≡ sets (sets s i l) (i + length l) m
+sets-append s [] m i = ap (λ (j : ℕ). sets s j m) (sym (add-zero i))
+sets-append s (x ∷ l) m i =
+    let e : suc i + length l ≡ i + suc (length l) = omega arith in
+    sets-append (set s i x) l m (suc i) ∙ ap (λ (j : ℕ). sets (sets (set s i x) (suc i) l) j m) e
+
+-- ---- a message of parts, each written behind the one before
+-- after the part m at the front of s the list is t, and i is the position behind it
+record Wrote (s m t : List ℕ) (i : ℕ) : Type 0 where
+  is : t ≡ sets s 0 m
+  behind : i ≡ length m
+
+wrote-first : (s m t : List ℕ) (i : ℕ) → t ≡ sets s 0 m → i ≡ 0 + length m → Wrote s m t i
+wrote-first s m t i e f = record { is = e; behind = omega arith }
+
+wrote-next : (s m l t u : List ℕ) (i j : ℕ) → Wrote s m t i → u ≡ sets t i l → j ≡ i + length l → Wrote s (m ++ l) u j
+wrote-next s m l t u i j w e f =
+    record {
+      is = e ∙ rw (w .behind, w .is) (ap (λ (k : ℕ). sets (sets s 0 m) k l) (sym (zero-add (length m))) ∙ sym (sets-append s m l 0));
+      behind = (let n = length-append m l in let b = w .behind in omega arith);
+    }
+
+wrote-all : (s m t : List ℕ) (n : ℕ) → length m ≤ length s → Wrote s m t n → leaves (Written n) t ≡ putFront m s
+wrote-all s m t n h w = put-whole m s h (w .behind) (w .is)
+
+module _ (s a b : List ℕ) where
+  pub two-short : length s < length a + length b → leaves TooShort s ≡ putFront (a ++ b) s
+  two-short h = let l = length-append a b in put-short (a ++ b) s (omega arith)
+
+  module _ (t u : List ℕ) (i j : ℕ) (e : t ≡ sets s 0 a) (f : i ≡ 0 + length a) (e₂ : u ≡ sets t i b) (f₂ : j ≡ i + length b) where
+    wrote-two : Wrote s (a ++ b) u j
+    wrote-two = wrote-next s a b t u i j (wrote-first s a t i e f) e₂ f₂
+
+    pub two-whole : length a + length b ≤ length s → leaves (Written j) u ≡ putFront (a ++ b) s
+    two-whole h = let l = length-append a b in wrote-all s (a ++ b) u j (omega arith) wrote-two
+
+    module _ (c w : List ℕ) (k : ℕ) (e₃ : w ≡ sets u j c) (f₃ : k ≡ j + length c) where
+      wrote-three : Wrote s (a ++ b ++ c) w k
+      wrote-three = wrote-next s (a ++ b) c u w j k wrote-two e₃ f₃
+
+      pub three-whole : length a + length b + length c ≤ length s → leaves (Written k) w ≡ putFront (a ++ (b ++ c)) s
+      three-whole h =
+          let l = length-append a b in
+          let m = length-append (a ++ b) c in
+          wrote-all s (a ++ b ++ c) w k (omega arith) wrote-three ∙ ap (λ (x : List ℕ). putFront x s) (append-assoc a b c)
+
+      pub four-whole : (d x : List ℕ) (n : ℕ) → x ≡ sets w k d → n ≡ k + length d → length a + length b + length c + length d ≤ length s
+          → leaves (Written n) x ≡ putFront (a ++ (b ++ (c ++ d))) s
+      four-whole d x n e₄ f₄ h =
+          let l = length-append a b in
+          let m = length-append (a ++ b) c in
+          let o = length-append (a ++ b ++ c) d in
+          wrote-all s (a ++ b ++ c ++ d) x n (omega arith) (wrote-next s (a ++ b ++ c) d w x k n wrote-three e₄ f₄)
+          ∙ ap (λ (y : List ℕ). putFront y s) (append-assoc (a ++ b) c d ∙ append-assoc a b (c ++ d))
+
+pub three-short : (s a b c : List ℕ) → length s < length a + length b + length c → leaves TooShort s ≡ putFront (a ++ (b ++ c)) s
+three-short s a b c h = let l = length-append a (b ++ c) in let m = length-append b c in put-short (a ++ (b ++ c)) s (omega arith)
+
+pub four-short : (s a b c d : List ℕ) → length s < length a + length b + length c + length d → leaves TooShort s ≡ putFront (a ++ (b ++ (c ++ d))) s
+four-short s a b c d h =
+    let l = length-append a (b ++ (c ++ d)) in
+    let m = length-append b (c ++ d) in
+    let n = length-append c d in
+    put-short (a ++ (b ++ (c ++ d))) s (omega arith)
+
+-- ---- bits
+-- bytes cleared, then bits copied in
+pub bits-first : (x buf t u : List ℕ) (start len : ℕ) → bytesFor len ≤ length buf → t ≡ cleared buf 0 (bytesFor len) → u ≡ writeBits t 0 (range x start len) → u ≡ sets buf 0 (pack (range x start len))
+bits-first x buf t u start len h e f =
+    let n = range-length x start len in
+    f ∙ ap (λ (l : List ℕ). writeBits l 0 (range x start len)) (e ∙ ap (λ (k : ℕ). cleared buf 0 (bytesFor k)) (sym n)) ∙ write-cleared buf 0 (range x start len) (omega arith)
+
+-- what is written at the front of the part of a buffer from index at on is written at index at
+pub part-sets : (buf u m : List ℕ) (at : ℕ) → at + length m ≤ length buf → u ≡ sets (take (length buf - at) (drop at buf)) 0 m → take at buf ++ (u ++ drop (length buf - at) (drop at buf)) ≡ sets buf at m
+part-sets buf u m at h e =
+    let n = length-drop at buf in
+    let f : drop (length buf - at) (drop at buf) ≡ [] = drop-of-length-le (drop at buf) {i = length buf - at} (omega arith) in
+    let g : take (length buf - at) (drop at buf) ≡ drop at buf = take-all (length buf - at) (drop at buf) (omega arith) in
+    let k : sets (drop at buf) 0 m ≡ m ++ drop (at + length m) buf =
+    sets-eq m (drop at buf) 0 (omega arith) ∙ ap (λ (l : List ℕ). m ++ l) (ap (λ (i : ℕ). drop i (drop at buf)) (zero-add (length m)) ∙ drop-drop (length m) at buf) in
+    rw (f, append-nil u) (ap (λ (l : List ℕ). take at buf ++ l) (e ∙ ap (λ (l : List ℕ). sets l 0 m) g ∙ k) ∙ sym (append-assoc (take at buf) m (drop (at + length m) buf)) ∙ sym (sets-eq m buf at h))

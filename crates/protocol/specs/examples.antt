@@ -1,0 +1,3 @@
+-- Worked examples, computed on the definitions.
+pub mod Samples
+pub mod Demo

@@ -1,0 +1,2 @@
+-- What internal functions give and require: the terms of their contracts.
+pub mod RebuilderParts

@@ -1,0 +1,3 @@
+-- Laws of the definitions, for proofs.
+pub mod RebuilderCodeLaws
+pub mod RebuilderCallLaws

@@ -1,0 +1,8 @@
+-- Laws of the definitions, for proofs.
+pub mod Tests
+pub mod BitLaws
+pub mod RangeLaws
+pub mod WriteLaws
+pub mod RuleLaws
+pub mod PackLaws
+pub mod ByteLaws
