@@ -1,10 +1,10 @@
 -- The lines of X and Y: zeros and ones only, at most 65,536; the empty line is the empty string.
 use mathlib.Core.Bool.{Bool, true, cond, _&&_, _||_}
-use mathlib.Core.List.{List, [], _∷_, _++_}
+use mathlib.Core.List.{List, [], _∷_}
 use Prim.Native.Nat.{ℕ}
-use lib.ListN.{length, drop}
+use lib.ListN.{length}
 use lib.Dec.{eqb, leb}
-use Rattle.strings.specs.Bits.{bytesFor, pack}
+use Rattle.strings.specs.Bits.{bytesFor, pack, atFront}
 use Rattle.lines.specs.declared.FieldFound.{FieldFound}
 use Rattle.lines.specs.declared.FieldFound.the-variants.{At, Missing}
 use Rattle.lines.specs.declared.StringRead.{StringRead}
@@ -33,7 +33,7 @@ unfoldable pub stringInto : List ℕ → List ℕ → Outcome
 stringInto line buf =
     cond (leb (length line) 65536 && allBits line)
     (cond (leb (bytesFor (length line)) (length buf))
-    (leaves (Bits (length line)) (pack (bitsOf line) ++ drop (bytesFor (length line)) buf))
+    (leaves (Bits (length line)) (atFront (pack (bitsOf line)) buf))
     (leaves NoRoom buf))
     (leaves NotBits buf)
 

@@ -1,4 +1,5 @@
 -- Laws of the definitions, for proofs.
+pub mod StoreLaws
 pub mod Tests
 pub mod BitLaws
 pub mod RangeLaws

@@ -8,7 +8,7 @@ use lib.ListN.{length, getD, set}
 use lib.Seq.{sets, getD-append-add}
 use Rattle.strings.specs.laws.PackLaws.{Bytes}
 use Rattle.cabi.specs.Bytes32.{bytesOf, numberAt}
-use Rattle.cabi.specs.laws.StoreLaws.{getD-sets-before, getD-sets-behind, getD-sets-in}
+use Rattle.strings.specs.laws.StoreLaws.{getD-sets-before, getD-sets-behind, getD-sets-in}
 
 -- a number's digits to base 256
 pub digits : (v : ℕ) → v < 4294967296 → v % 256 + 256 * (v / 256 % 256) + 65536 * (v / 65536 % 256) + 16777216 * (v / 16777216 % 256) ≡ v

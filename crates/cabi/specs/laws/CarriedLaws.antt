@@ -1,6 +1,6 @@
 -- The bytes carry the rebuilder's state from call to call: what the start or a taken call leaves is read as its state.
-use mathlib.Core.Path.{_≡_, refl}
-use mathlib.Core.Bool.{Bool, true, false, _&&_}
+use mathlib.Core.Path.{_≡_}
+use mathlib.Core.Bool.{true, _&&_}
 use mathlib.Core.List.{List, _++_}
 use Prim.Native.Nat.{ℕ, zero, suc, _+_, _-_, _≤_, _<_}
 use native.Mathlib.Nat.{div-le-self}
@@ -13,7 +13,6 @@ use Rattle.strings.specs.laws.PackLaws.{Bytes}
 use Rattle.strings.specs.StringRule.{stringRule}
 use Rattle.strings.specs.laws.RuleLaws.{rule-is}
 use Rattle.strings.specs.laws.Tests.{and-left, and-right, by-test}
-use Rattle.strings.specs.declared.Refusal.{Refusal}
 use Rattle.strings.specs.declared.Refusal.the-variants.{BadSetting, BadString, OutOfTurn, NoRoom}
 use Rattle.protocol.specs.declared.Settings.{Settings}
 use Rattle.protocol.specs.declared.Piece.{Piece}
@@ -24,9 +23,9 @@ use Rattle.protocol.specs.Soundness.{sound, openingSound, wholeSound, phaseSoun
 use Rattle.protocol.specs.laws.SoundLaws.{both, Ordered}
 use Rattle.protocol.specs.laws.SoundParts.{top-most, Framed, sound-is, PiecesIs, pieces-is, WholeIs, whole-is}
 use Rattle.protocol.specs.laws.SoundSteps.{fresh-sound}
-use Rattle.protocol.specs.RebuilderCall.{Started, starts, unlessStarted, rebuilderStart, freshRebuilder, Taken, takes, unlessTaken, Step, Rooms, rebuilderCall}
-use Rattle.protocol.specs.laws.Asking.{call-sound}
-use Rattle.protocol.specs.laws.Delivery.{started-is}
+use Rattle.protocol.specs.RebuilderCall.{starts, unlessStarted, rebuilderStart, freshRebuilder, takes, unlessTaken, Step, Rooms, rebuilderCall}
+use Rattle.protocol.specs.laws.Asking.{unless-taken, call-sound}
+use Rattle.protocol.specs.laws.Delivery.{unless-started, started-is}
 use Rattle.cabi.specs.Layout.{rebuilderBytes, rebuilderOf}
 use Rattle.cabi.specs.laws.LayoutLaws.{PieceFits, RebuilderFits, rebuilder-read, rebuilder-back, rebuilder-pieces}
 use Rattle.cabi.specs.Calls.{startOnBytes, rebuilderOnBytes}
@@ -143,22 +142,14 @@ sound-fits st e l =
     }
 
 -- ---- the start and the call
-unless-starts : (t : Bool) (e : Refusal) (k : Started) (st : Rebuilder) (m : List ℕ) → unlessStarted t e k ≡ starts st m → (t ≡ true) × (k ≡ starts st m)
-unless-starts true e k st m h = (refl, h)
-unless-starts false e k st m h = let z : _≡_ {A = ℕ} 0 1 = cc in absurd (omega arith)
-
-unless-takes : (t : Bool) (e : Refusal) (k : Taken) (j : Step) (m : List ℕ) → unlessTaken t e k ≡ takes j m → (t ≡ true) × (k ≡ takes j m)
-unless-takes true e k j m h = (refl, h)
-unless-takes false e k j m h = let z : _≡_ {A = ℕ} 0 1 = cc in absurd (omega arith)
-
 -- later bytes of the state's slice are not read
 pub start-carried : (S : Settings) (y : List ℕ) (bits stateRoom room : ℕ) (st : Rebuilder) (m l : List ℕ) → startOnBytes S y bits stateRoom room ≡ starts st m
     → rebuilderOf (rebuilderBytes st ++ l) ≡ st
 unfolding startOnBytes
 start-carried S y bits stateRoom room st m l e =
-    let t = unless-starts (withinLimits S) BadSetting (unlessStarted (stringRule y bits) BadString (unlessStarted (leb 564 stateRoom) NoRoom (rebuilderStart S y bits room))) st m e in
-    let u = unless-starts (stringRule y bits) BadString (unlessStarted (leb 564 stateRoom) NoRoom (rebuilderStart S y bits room)) st m (t .1) in
-    let v = unless-starts (leb 564 stateRoom) NoRoom (rebuilderStart S y bits room) st m (u .1) in
+    let t = unless-started (withinLimits S) BadSetting (unlessStarted (stringRule y bits) BadString (unlessStarted (leb 564 stateRoom) NoRoom (rebuilderStart S y bits room))) st m e in
+    let u = unless-started (stringRule y bits) BadString (unlessStarted (leb 564 stateRoom) NoRoom (rebuilderStart S y bits room)) st m (t .1) in
+    let v = unless-started (leb 564 stateRoom) NoRoom (rebuilderStart S y bits room) st m (u .1) in
     let k = started-is S y bits room st m (v .1) in
     let f = fresh-sound S bits (k .limits) (rule-is y bits (k .string) .few) in
     rebuilder-read st l (rw (k .state) (sound-fits (freshRebuilder S bits) (f .0) (f .1)))
@@ -167,7 +158,7 @@ pub call-carried : (s y : List ℕ) (bits : ℕ) (msg : List ℕ) (rooms : Rooms
     → rebuilderOf (rebuilderBytes (j .state)) ≡ j .state
 unfolding rebuilderOnBytes
 call-carried s y bits msg rooms j m b e =
-    let u = unless-takes (stringRule y bits) BadString (unlessTaken (eqb (length s) 564) OutOfTurn (rebuilderCall (rebuilderOf s) y bits msg rooms)) j m e in
-    let v = unless-takes (eqb (length s) 564) OutOfTurn (rebuilderCall (rebuilderOf s) y bits msg rooms) j m (u .1) in
+    let u = unless-taken (stringRule y bits) BadString (unlessTaken (eqb (length s) 564) OutOfTurn (rebuilderCall (rebuilderOf s) y bits msg rooms)) j m e in
+    let v = unless-taken (eqb (length s) 564) OutOfTurn (rebuilderCall (rebuilderOf s) y bits msg rooms) j m (u .1) in
     let f = call-sound (rebuilderOf s) y bits msg rooms j m (rebuilder-pieces s) b (v .1) in
     rebuilder-back (j .state) (sound-fits (j .state) (f .0) (f .1))

@@ -28,7 +28,7 @@ use Rattle.protocol.specs.declared.Holder.{Holder}
 use Rattle.protocol.specs.Anchors.{part}
 use Rattle.protocol.specs.Runs.{answer}
 use Rattle.protocol.specs.HolderCall.{Heard, declines, replies, unlessHeard, holderCall, freshHolder}
-use Rattle.protocol.specs.laws.HolderLaws.{heard-call, Made, opens, counts, heard-made, holder-sound}
+use Rattle.protocol.specs.laws.HolderLaws.{unless-heard, heard-call, Made, opens, counts, heard-made, holder-sound}
 use Rattle.holder.specs.declared.HolderAnswer.the-variants.{Replied, Refused}
 use Rattle.holder.specs.declared.HolderOut.{HolderOut}
 use Rattle.holder.specs.HolderOutcome.{HolderSaid, answerSaid, saidHolder, leavesHolder}
@@ -165,16 +165,12 @@ holder-fits s b = record {
   answers-fits = number-below s 16 b;
 }
 
-unless-replies : (t : Bool) (e : Refusal) (k : Heard) (next : Holder) (m : List ℕ) → unlessHeard t e k ≡ replies next m → (t ≡ true) × (k ≡ replies next m)
-unless-replies true e k next m h = (refl, h)
-unless-replies false e k next m h = let z : _≡_ {A = ℕ} 0 1 = cc in absurd (omega arith)
-
 pub holder-carried : (s x : List ℕ) (bits : ℕ) (msg : List ℕ) (room : ℕ) (next : Holder) (m : List ℕ) → Bytes s → Bytes msg
     → holderOnBytes s x bits msg room ≡ replies next m → holderOf (holderBytes next) ≡ next
 unfolding holderOnBytes
 holder-carried s x bits msg room next m b c e =
-    let u = unless-replies (stringRule x bits) BadString (unlessHeard (eqb (length s) 20) OutOfTurn (holderCall (holderOf s) x bits msg room)) next m e in
-    let v = unless-replies (eqb (length s) 20) OutOfTurn (holderCall (holderOf s) x bits msg room) next m (u .1) in
+    let u = unless-heard (stringRule x bits) BadString (unlessHeard (eqb (length s) 20) OutOfTurn (holderCall (holderOf s) x bits msg room)) next m e in
+    let v = unless-heard (eqb (length s) 20) OutOfTurn (holderCall (holderOf s) x bits msg room) next m (u .1) in
     let o = holder-sound (holderOf s) x bits msg room next m (v .1) in
     let k = heard-call (holderOf s) x bits msg room next m (v .1) in
     let p = o .opened in

@@ -14,7 +14,7 @@ use Rattle.protocol.specs.declared.Rebuilder.{Rebuilder}
 use Rattle.protocol.specs.States.{noPiece}
 use Rattle.cabi.specs.Bytes32.{bytesOf, numberAt}
 use Rattle.cabi.specs.Layout.{allBytes, holderBytes, holderOf, pieceBytes, pieceAt, piecesBytes, piecesAt, fieldBytes, rebuilderBytes, fieldsOf, rebuilderOf}
-use Rattle.cabi.specs.laws.StoreLaws.{sets-append, sets-front}
+use Rattle.strings.specs.laws.StoreLaws.{sets-append, sets-front}
 use Rattle.cabi.specs.laws.Bytes32Laws.{digits, number-behind}
 
 -- ---- lengths

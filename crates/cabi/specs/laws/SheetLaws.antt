@@ -15,7 +15,7 @@ use Rattle.protocol.specs.laws.SheetRoom.{rowsNeeded}
 use Rattle.cabi.specs.Bytes32.{bytesOf, numberAt}
 use Rattle.cabi.specs.Layout.{allBytes}
 use Rattle.cabi.specs.Sheet.{rowBytes, rowsBytes, rowAt, rowsAt, rowsIn, sheetBytesAfter}
-use Rattle.cabi.specs.laws.StoreLaws.{sets-append}
+use Rattle.strings.specs.laws.StoreLaws.{sets-append}
 use Rattle.cabi.specs.laws.Bytes32Laws.{digits, number-before, number-after, number-in}
 use Rattle.cabi.specs.laws.LayoutLaws.{store-next}
 

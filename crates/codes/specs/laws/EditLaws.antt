@@ -5,15 +5,12 @@ use mathlib.Core.Logic.{_⊎_, inl, inr}
 use mathlib.Core.List.{List, [], _∷_, _++_}
 use mathlib.Core.Option.{none, some}
 use Prim.Native.Nat.{ℕ, suc, _+_, _-_, _%_, _^_, _≤_, _<_}
-use native.Mathlib.Nat.{zero-add}
 use native.Mathlib.Decide.{decLt, decLe}
 use native.Mathlib.Omega.{arith}
-use lib.ListN.{length, drop}
-use lib.Seq.{sets, sets-eq}
+use lib.ListN.{length}
 use lib.Dec.{eqb, leb, ltb}
 use borrow.Author.Tests.{le-leb, lt-leb, lt-ltb, le-ltb, ltb-true, eq-eqb, ne-eqb}
-use Rattle.strings.specs.Bits.{range, bytesFor, setBit, writeBits, cleared, pack, atFront}
-use Rattle.strings.specs.laws.PackLaws.{length-pack, write-cleared}
+use Rattle.strings.specs.Bits.{range, setBit, writeBits}
 use Rattle.strings.specs.laws.RangeLaws.{range-length, range-take, range-drop}
 use Rattle.strings.specs.laws.WriteLaws.{write-next, write-append}
 use Rattle.codes.specs.Repair.{without, insertAt, putIn, takeOut, repairTo}
@@ -188,11 +185,3 @@ module _ (e : Edit) (len n : ℕ) (f : Fits e len n) where
 
   pub edited-keep : (s : List ℕ) (start : ℕ) → e ≡ Keep → range s start n ≡ edited e (range s start len)
   edited-keep s start h = ap (range s start) (as-keep h) ∙ ap (λ (x : Edit). edited x (range s start len)) (sym h)
-
--- ---- bits written over cleared bytes are a packed string
-pub packed-into : (s : List ℕ) (l : List Bool) (n : ℕ) → length l ≡ n → bytesFor n ≤ length s → writeBits (cleared s 0 (bytesFor n)) 0 l ≡ atFront (pack l) s
-packed-into s l n e h =
-    let k : 0 + bytesFor (length l) ≤ length s = rw e (omega arith) in
-    let p = length-pack l in
-    let c : writeBits (cleared s 0 (bytesFor (length l))) 0 l ≡ sets s 0 (pack l) = write-cleared s 0 l k in
-    (rw e at c) ∙ sets-eq (pack l) s 0 (omega arith) ∙ ap (λ (x : ℕ). pack l ++ drop x s) (zero-add (length (pack l)))

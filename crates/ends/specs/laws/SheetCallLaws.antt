@@ -9,8 +9,6 @@ use lib.Seq.{sets, length-sets}
 use Rattle.protocol.specs.declared.Holder.{Holder}
 use Rattle.protocol.specs.declared.Rebuilder.{Rebuilder}
 use Rattle.protocol.specs.declared.Row.{Row}
-use Rattle.protocol.specs.declared.SheetChange.{SheetChange}
-use Rattle.protocol.specs.declared.SheetChange.the-variants.{NoRow, AddRow, OneRow}
 use Rattle.protocol.specs.RebuilderCall.{Rooms, Step, Taken, noRow, rebuilderCall, refuses, sheetAfter, takes}
 use Rattle.protocol.specs.laws.SheetRoom.{rowsNeeded, taken-rows}
 use Rattle.protocol.specs.Worlds.{afterTaken, world}
@@ -61,9 +59,3 @@ pub clear-end : (from to : ℕ) (s₀ s : List Row) (i : ℕ) → to ≤ i → C
 clear-end from to s₀ s i h k =
     let n : 0 ≡ to - i = omega arith in
     ap (λ (m : ℕ). sets s i (replicate m noRow)) n ∙ k .1
-
--- ---- a change keeps the number of rows
-pub length-after : (s : List Row) (k : SheetChange) → length (sheetAfter s k) ≡ length s
-length-after s NoRow = refl
-length-after s (AddRow i r) = length-sets s i (r ∷ [])
-length-after s (OneRow used r) = length-sets s 0 (r ∷ replicate (used - 1) noRow)

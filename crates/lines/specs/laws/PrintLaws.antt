@@ -12,7 +12,7 @@ use lib.Dec.{ltb}
 use borrow.Author.Tests.{lt-ltb, le-ltb}
 use Rattle.strings.specs.Bits.{bitAt, range}
 use Rattle.strings.specs.laws.RangeLaws.{rest, rest-is, rest-last, range-length}
-use Rattle.messages.specs.laws.WritingLaws.{sets-append}
+use Rattle.strings.specs.laws.StoreLaws.{sets-append}
 use Rattle.lines.specs.Printing.{Puts, hexDigit, hexOf, digitsIn, decimal, bitByte, bitBytes, messageLine, lastLine, refusalLine}
 
 -- bytes written one behind the other

@@ -1,18 +1,16 @@
 -- Laws of the lines of X and Y, as the code meets them.
 use mathlib.Core.Path.{_≡_, refl, sym, ap, ap₂, _∙_}
 use mathlib.Core.Bool.{Bool, true, false}
-use mathlib.Core.List.{List, [], _∷_, _++_}
+use mathlib.Core.List.{List, [], _∷_}
 use Prim.Native.Nat.{ℕ, suc, _+_, _≤_, _<_}
-use native.Mathlib.Nat.{zero-add}
 use native.Mathlib.Numerals.{add-one}
-use native.Mathlib.Omega.{arith}
 use lib.ListN.{length, getD, drop, drop-of-length-le}
-use lib.Seq.{drop-cons, sets-eq}
+use lib.Seq.{drop-cons}
 use lib.Dec.{eqb}
 use borrow.Author.Tests.{eq-eqb, ne-eqb, lt-leb, le-leb}
-use Rattle.strings.specs.Bits.{bytesFor, pack, setBit, writeBits, cleared}
+use Rattle.strings.specs.Bits.{bytesFor, pack, setBit, writeBits, cleared, atFront}
 use Rattle.strings.specs.laws.WriteLaws.{write-none, write-next}
-use Rattle.strings.specs.laws.PackLaws.{length-pack, write-cleared}
+use Rattle.strings.specs.laws.PackLaws.{packed-into}
 use Rattle.lines.specs.declared.FieldFound.{FieldFound}
 use Rattle.lines.specs.declared.FieldFound.the-variants.{At, Missing}
 use Rattle.lines.specs.declared.StringRead.the-variants.{Bits, NotBits, NoRoom}
@@ -81,18 +79,8 @@ module _ (line buf : List ℕ) where
     string-packed e h u w f g =
         rw (le-leb (length line) 65536 few, ← d, e, le-leb (bytesFor (length line)) (length buf) h) (ap (leaves (Bits (length line))) whole)
       where
-        n : length (bitsOf line) ≡ length line
-        n = length-bits line
-
-        whole : w ≡ pack (bitsOf line) ++ drop (bytesFor (length line)) buf
-        whole =
-            let p = length-pack (bitsOf line) in
-            let k : 0 + length (pack (bitsOf line)) ≡ bytesFor (length line) = rw (p, n) (zero-add (bytesFor (length line))) in
-            g
-            ∙ ap (λ (l : List ℕ). writeBits l 0 (bitsOf line)) (f ∙ ap (λ (m : ℕ). cleared buf 0 (bytesFor m)) (sym n))
-            ∙ write-cleared buf 0 (bitsOf line) (omega arith)
-            ∙ sets-eq (pack (bitsOf line)) buf 0 (omega arith)
-            ∙ ap (λ (m : ℕ). pack (bitsOf line) ++ drop m buf) k
+        whole : w ≡ atFront (pack (bitsOf line)) buf
+        whole = g ∙ ap (λ (l : List ℕ). writeBits l 0 (bitsOf line)) f ∙ packed-into buf (bitsOf line) (length line) (length-bits line) h
 
 module _ (input buf : List ℕ) (i : ℕ) {r : FieldFound} (p : r ≡ field 10 i input) where
   pub string-missing : r ≡ Missing → leaves NotBits buf ≡ stringIn input i buf

@@ -1,14 +1,15 @@
 -- Laws of writing messages: parts written one behind the other are the whole, and the two cases of a lent buffer.
 use mathlib.Core.Path.{_≡_, refl, sym, ap, _∙_}
-use mathlib.Core.List.{List, [], _∷_, _++_, append-nil, append-assoc}
-use Prim.Native.Nat.{ℕ, suc, _+_, _-_, _≤_, _<_}
-use native.Mathlib.Nat.{zero-add, add-zero}
+use mathlib.Core.List.{List, [], _++_, append-nil, append-assoc}
+use Prim.Native.Nat.{ℕ, _+_, _-_, _≤_, _<_}
+use native.Mathlib.Nat.{zero-add}
 use native.Mathlib.Omega.{arith}
-use lib.ListN.{length, set, take, drop, length-append, length-drop, drop-of-length-le}
+use lib.ListN.{length, take, drop, length-append, length-drop, drop-of-length-le}
 use lib.Seq.{sets, sets-eq, take-all, drop-drop}
 use borrow.Author.Tests.{lt-ltb, le-ltb}
 use Rattle.strings.specs.Bits.{range, bytesFor, pack, cleared, writeBits}
 use Rattle.strings.specs.laws.RangeLaws.{range-length}
+use Rattle.strings.specs.laws.StoreLaws.{sets-append, sets-front}
 use Rattle.strings.specs.laws.PackLaws.{write-cleared}
 use Rattle.messages.specs.declared.WriteResult.the-variants.{Written, TooShort}
 use Rattle.messages.specs.Writing.{leaves, putFront}
@@ -20,13 +21,7 @@ module _ (m buf : List ℕ) where
 
   pub put-whole : {n : ℕ} {t : List ℕ} → length m ≤ length buf → n ≡ length m → t ≡ sets buf 0 m → leaves (Written n) t ≡ putFront m buf
   unfolding putFront
-  put-whole h e f = rw (le-ltb (length buf) (length m) h, e, f, sets-eq m buf 0 (omega arith), zero-add) refl
-
-pub sets-append : (s l m : List ℕ) (i : ℕ) → sets s i (l ++ m) ≡ sets (sets s i l) (i + length l) m
-sets-append s [] m i = ap (λ (j : ℕ). sets s j m) (sym (add-zero i))
-sets-append s (x ∷ l) m i =
-    let e : suc i + length l ≡ i + suc (length l) = omega arith in
-    sets-append (set s i x) l m (suc i) ∙ ap (λ (j : ℕ). sets (sets (set s i x) (suc i) l) j m) e
+  put-whole h e f = rw (le-ltb (length buf) (length m) h, e, f, sets-front buf m h) refl
 
 -- ---- a message of parts, each written behind the one before
 -- after the part m at the front of s the list is t, and i is the position behind it

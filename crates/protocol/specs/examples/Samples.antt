@@ -127,22 +127,20 @@ nextOf (takes s q) = q
 pub record Samples : Type 0 where
   -- Settings: m 8 to 64
   pub m-7 : withinLimits (settings 7 8 1 1 100) ≡ false
-  pub m-8 : withinLimits (settings 8 8 1 1 100) ≡ true
+  -- m 8, and with it the least h, k and key
+  pub least : withinLimits (settings 8 8 1 1 100) ≡ true
   pub m-64 : withinLimits (settings 64 8 1 1 100) ≡ true
   pub m-65 : withinLimits (settings 65 8 1 1 100) ≡ false
   -- h 8 to 32
   pub h-7 : withinLimits (settings 8 7 1 1 100) ≡ false
-  pub h-8 : withinLimits (settings 8 8 1 1 100) ≡ true
   pub h-32 : withinLimits (settings 8 32 1 1 100) ≡ true
   pub h-33 : withinLimits (settings 8 33 1 1 100) ≡ false
   -- k 1 to 8
   pub k-0 : withinLimits (settings 8 8 0 1 100) ≡ false
-  pub k-1 : withinLimits (settings 8 8 1 1 100) ≡ true
   pub k-8 : withinLimits (settings 8 8 8 1 100) ≡ true
   pub k-9 : withinLimits (settings 8 8 9 1 100) ≡ false
   -- key 1 to 2^32 - 1
   pub key-0 : withinLimits (settings 8 8 1 0 100) ≡ false
-  pub key-1 : withinLimits (settings 8 8 1 1 100) ≡ true
   pub key-most : withinLimits (settings 8 8 1 4294967295 100) ≡ true
   pub key-past : withinLimits (settings 8 8 1 4294967296 100) ≡ false
   -- ceiling 0 to 16,384
@@ -417,19 +415,16 @@ unfolding bitAt range flipped setBit writeBits pack cleared sameBits noneSet str
 samples =
     record {
       m-7 = refl;
-      m-8 = refl;
+      least = refl;
       m-64 = refl;
       m-65 = refl;
       h-7 = refl;
-      h-8 = refl;
       h-32 = refl;
       h-33 = refl;
       k-0 = refl;
-      k-1 = refl;
       k-8 = refl;
       k-9 = refl;
       key-0 = refl;
-      key-1 = refl;
       key-most = refl;
       key-past = refl;
       ceiling-0 = refl;

@@ -130,15 +130,15 @@ pub record TakenCall (st : Rebuilder) (y : List ℕ) (msg : List ℕ) (rooms : R
   pub steps : step ≡ stepOf st y (length msg) a
   pub asks : next ≡ writtenQuestion (planned (stepOf st y (length msg) a .state))
 
-unless-true : (t : Bool) (e : Refusal) (k : Taken) (s : Step) (m : List ℕ) → unlessTaken t e k ≡ takes s m → (t ≡ true) × (k ≡ takes s m)
-unless-true true e k s m h = (refl, h)
-unless-true false e k s m h = let z : _≡_ {A = ℕ} 0 1 = cc in absurd (omega arith)
+pub unless-taken : (t : Bool) (e : Refusal) (k : Taken) (s : Step) (m : List ℕ) → unlessTaken t e k ≡ takes s m → (t ≡ true) × (k ≡ takes s m)
+unless-taken true e k s m h = (refl, h)
+unless-taken false e k s m h = let z : _≡_ {A = ℕ} 0 1 = cc in absurd (omega arith)
 
 module _ (st : Rebuilder) (y : List ℕ) (bits : ℕ) (msg : List ℕ) (rooms : Rooms) (step : Step) (next : List ℕ) where
   given-taken : (a : Answer) → given st y msg rooms a ≡ takes step next
       → (roomFor st (bitsKnown st a) rooms ≡ true) × (step ≡ stepOf st y (length msg) a) × (next ≡ writtenQuestion (planned (stepOf st y (length msg) a .state)))
   given-taken a e =
-      let u = unless-true (roomFor st (bitsKnown st a) rooms) NoRoom (takes (stepOf st y (length msg) a) (writtenQuestion (planned (stepOf st y (length msg) a .state)))) step next e in
+      let u = unless-taken (roomFor st (bitsKnown st a) rooms) NoRoom (takes (stepOf st y (length msg) a) (writtenQuestion (planned (stepOf st y (length msg) a .state)))) step next e in
       let f = u .1 in
       (u .0, (cc), (cc))
 
@@ -152,8 +152,8 @@ module _ (st : Rebuilder) (y : List ℕ) (bits : ℕ) (msg : List ℕ) (rooms : 
   pub taken-call : rebuilderCall st y bits msg rooms ≡ takes step next → TakenCall st y msg rooms step next
   unfolding rebuilderCall
   taken-call e =
-      let u = unless-true (stringRule y bits && eqb (st .ybits) bits) BadString _ step next e in
-      let v = unless-true (sound st) OutOfTurn _ step next (u .1) in
+      let u = unless-taken (stringRule y bits && eqb (st .ybits) bits) BadString _ step next e in
+      let v = unless-taken (sound st) OutOfTurn _ step next (u .1) in
       go (v .0) (planned st) refl (v .1)
     where
       go : sound st ≡ true → (o : Option Question) → planned st ≡ o → awaits st y msg rooms o ≡ takes step next → TakenCall st y msg rooms step next

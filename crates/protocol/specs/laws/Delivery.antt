@@ -148,7 +148,7 @@ pub record StartedIs (S : Settings) (y : List ℕ) (bits room : ℕ) (r : Rebuil
   pub state : r ≡ freshRebuilder S bits
   pub question : q ≡ questionBytes (AskOpen (S .h) (S .key))
 
-unless-started : (t : Bool) (e : Refusal) (k : Started) (r : Rebuilder) (q : List ℕ) → unlessStarted t e k ≡ starts r q → (t ≡ true) × (k ≡ starts r q)
+pub unless-started : (t : Bool) (e : Refusal) (k : Started) (r : Rebuilder) (q : List ℕ) → unlessStarted t e k ≡ starts r q → (t ≡ true) × (k ≡ starts r q)
 unless-started true e k r q h = (refl, h)
 unless-started false e k r q h = let z : _≡_ {A = ℕ} 0 1 = cc in absurd (omega arith)
 

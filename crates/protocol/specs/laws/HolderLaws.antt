@@ -47,7 +47,7 @@ pub record HeardCall (st : Holder) (x : List ℕ) (bits : ℕ) (msg : List ℕ) 
   pub after : next ≡ afterAnswer st bits q
   pub sends : reply ≡ answerBytes (answer (st .h) (st .key) (range x 0 bits) q)
 
-unless-heard : (t : Bool) (e : Refusal) (k : Heard) (s : Holder) (m : List ℕ) → unlessHeard t e k ≡ replies s m → (t ≡ true) × (k ≡ replies s m)
+pub unless-heard : (t : Bool) (e : Refusal) (k : Heard) (s : Holder) (m : List ℕ) → unlessHeard t e k ≡ replies s m → (t ≡ true) × (k ≡ replies s m)
 unless-heard true e k s m h = (refl, h)
 unless-heard false e k s m h = let z : _≡_ {A = ℕ} 0 1 = cc in absurd (omega arith)
 

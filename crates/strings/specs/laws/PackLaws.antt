@@ -12,8 +12,9 @@ use lib.Seq.{sets, sets-eq, length-sets, ext-getD, getD-set-same, getD-set-other
 use lib.Dec.{eqb}
 use lib.Bits.{bitXor, xor-lt}
 use lib.Pow.{pow-lt}
-use Rattle.strings.specs.Bits.{bitAt, range, bytesFor, flipped, setBit, differs, writeBits, zeroBytes, pack, cleared}
+use Rattle.strings.specs.Bits.{bitAt, range, bytesFor, flipped, setBit, differs, writeBits, zeroBytes, pack, cleared, atFront}
 use Rattle.strings.specs.StringRule.{IsString}
+use Rattle.strings.specs.laws.StoreLaws.{sets-front}
 use Rattle.strings.specs.laws.BitLaws.{bit-front}
 use Rattle.strings.specs.laws.RangeLaws.{range-length, range-at}
 use Rattle.strings.specs.laws.WriteLaws.{length-writeBits, write-outside, write-inside, write-front, write-behind}
@@ -132,6 +133,14 @@ write-cleared buf at l h =
     ∙ write-behind (take at buf) (z ++ tail) 0 l
     ∙ ap (λ (u : List ℕ). take at buf ++ u) (write-front z tail 0 l (omega arith))
     ∙ sym (sets-at (writeBits z 0 l) buf at n (length-writeBits z 0 l ∙ lz) h)
+
+-- bits written over cleared bytes are a packed string
+pub packed-into : (s : List ℕ) (l : List Bool) (n : ℕ) → length l ≡ n → bytesFor n ≤ length s → writeBits (cleared s 0 (bytesFor n)) 0 l ≡ atFront (pack l) s
+packed-into s l n e h =
+    let k : 0 + bytesFor (length l) ≤ length s = rw e (omega arith) in
+    let p = length-pack l in
+    let c : writeBits (cleared s 0 (bytesFor (length l))) 0 l ≡ sets s 0 (pack l) = write-cleared s 0 l k in
+    (rw e at c) ∙ sets-front s (pack l) (omega arith)
 
 -- ---- cleared bytes
 pub cleared-first : (s : List ℕ) (k : ℕ) → k ≤ length s → cleared s 0 k ≡ zeroBytes k ++ drop k s

@@ -5,7 +5,8 @@ use Prim.Native.Nat.{ℕ}
 use Rattle.strings.specs.Bits.{range, writeBits}
 use Rattle.strings.specs.laws.RangeLaws.{range-length}
 use Rattle.codes.specs.code.Edits.{edited}
-use Rattle.codes.specs.laws.EditLaws.{edited-length, packed-into}
+use Rattle.strings.specs.laws.PackLaws.{packed-into}
+use Rattle.codes.specs.laws.EditLaws.{edited-length}
 use borrow.Author.Needs.{needs}
 use Rattle.codes.proofs.edits.pack_edited.Statement.{statement}
 use Rattle.codes.proofs.edits.pack_edited.Tie as tie

@@ -51,7 +51,7 @@ use Rattle.protocol.proofs.Row as T
 use Rattle.protocol.proofs.Row.Laws as T′
 use Rattle.protocol.proofs.SheetChange as E
 use Rattle.protocol.proofs.SheetChange.Laws as E′
-use Rattle.ends.specs.laws.SheetCallLaws.{length-after}
+use Rattle.protocol.specs.laws.Delivery.{sheet-length-after}
 use Rattle.ends.proofs.LentRows.{WriteRow, ClearRows, write-row-called, write-row-called-last, clear-rows-called-last}
 use Rattle.ends.proofs.Lending.{sheet, Sheet}
 use Rattle.ends.proofs.sheet.write_row.Symbol as write-row-def
@@ -128,7 +128,7 @@ module _ {M : Type 1} (𝓤 : URA M) (H : Heap 𝓤) (A : Atoms 𝓤) (W : Given
   exits : (d : SheetChange) → Is E.the-row d (val d ∷ []) → ent 𝓤 (sep 𝓤 (sem 𝓤 H A (Sheet b o κ γ (length ys) (sheetAfter ys d))) (A .lft κ q)) (Post d vunit)
   exits d g =
       qed W (‵ (Sheet b o κ γ (length ys) (sheetAfter ys d)) ∷ ‵ (flft κ q) ∷ []) ∵
-      suffices ! _ (ends-at 𝓤 H A apply-change.ended stayed (apply-change.clauses 𝓤 H A mem run) W (((κ, tt), (q, tt), tt, a d, vals d), tt) vunit tt (sheetAfter ys d, (tt, tt)) (length-after ys d, (tt, tt))) $ says ! refl $
+      suffices ! _ (ends-at 𝓤 H A apply-change.ended stayed (apply-change.clauses 𝓤 H A mem run) W (((κ, tt), (q, tt), tt, a d, vals d), tt) vunit tt (sheetAfter ys d, (tt, tt)) (sheet-length-after ys d, (tt, tt))) $ says ! refl $
       nothing ! $ move ! (2 ∷ 0 ∷ []) $ join ! $ frame ! $
       nothing ! $ owned ! E.the-row (Is E.the-row) (LL.makes E.the-type E′.the-plain 𝓤 H A) d _ g $ fjoin ! $ move ! (1 ∷ 0 ∷ []) $ fjoin ! $
       feqI ! (List Val) (vunit ∷ []) (vunit ∷ []) refl $ move ! (1 ∷ 0 ∷ []) $ done !

@@ -54,7 +54,8 @@ use Rattle.protocol.proofs.SheetChange as E
 use Rattle.protocol.proofs.SheetChange.Laws as E′
 use Rattle.rebuilder.specs.declared.RebuilderOut.{RebuilderOut}
 use Rattle.rebuilder.specs.RebuilderOutcome.{saidRebuilder, leavesRebuilder, rooms}
-use Rattle.ends.specs.laws.SheetCallLaws.{change-fits, left-on-sheet, length-after}
+use Rattle.ends.specs.laws.SheetCallLaws.{change-fits, left-on-sheet}
+use Rattle.protocol.specs.laws.Delivery.{sheet-length-after}
 use Rattle.rebuilder.proofs.RebuilderOut as O
 use Rattle.rebuilder.proofs.RebuilderOut.Laws as O′
 use Rattle.rebuilder.proofs.rebuilder_call as core
@@ -218,7 +219,7 @@ module _ {M : Type 1} (𝓤 : URA M) (H : Heap 𝓤) (A : Atoms 𝓤) (W : Given
     exits =
         qed W (‵ (flft κ₂ q₂) ∷ ‵ (finally T.the-row sheet-name (sheetAfter rows (r .sheet))) ∷ core-tokens ∷ ‵ (finally u8 question-name question′) ∷ ‵ (finally u8 string-name string′) ∷ ‵ Y ∷ ‵ Msg ∷ []) ∵
         suffices ! _ (ends-at 𝓤 H A on-sheet.ended stayed (on-sheet.clauses 𝓤 H A mem run) W bound (out-val r) r (tt, (tt, (tt, (tt, (sheetAfter rows (r .sheet), (string′, (question′, tt)))))))
-        (tt, (tt, (tt, (tt, (length-after rows (r .sheet), (string-same, (question-same, tt)))))))) $
+        (tt, (tt, (tt, (tt, (sheet-length-after rows (r .sheet), (string-same, (question-same, tt)))))))) $
         says ! (left-on-sheet st y bits msg (rooms (length string) (length rows) (length question)) string question string′ question′ r said rows (sheetAfter rows (r .sheet)) refl) $
         -- the tokens, with κ₂'s among them
         move ! (2 ∷ []) $ split ! $ move ! (1 ∷ []) $ split ! $ move ! (3 ∷ 1 ∷ []) $ join ! $ move ! (1 ∷ 0 ∷ []) $ join ! $ move ! (1 ∷ 0 ∷ []) $ join ! $ frame ! $
