@@ -6,9 +6,9 @@ use Prim.Native.Nat.{ℕ, _+_}
 use lib.Dec.{leb}
 use Rattle.strings.specs.Bits.{range}
 use Rattle.strings.specs.StringRule.{stringRule}
+use Rattle.strings.specs.SettingLimits.{anchorLimits, factorLimits}
 use Rattle.strings.specs.Refusals.{refusalNumber}
 use Rattle.codes.specs.Entries.{Answer, refusal, value, unless}
-use Rattle.protocol.specs.Limits.{between}
 use Rattle.protocol.specs.Anchors.{place}
 use Rattle.anchors.specs.declared.Place.{Place}
 use Rattle.anchors.specs.declared.Place.the-variants.{At, Nowhere}
@@ -23,7 +23,7 @@ placeIn (some r) = At r
 -- ---- the search as a host calls it, on the copy y of that many bits and a string a as the anchor
 -- anchor m 8 to 64 bits; window factor k 1 to 8
 unfoldable pub anchorSettings : (m k : ℕ) → Bool
-anchorSettings m k = between 8 m 64 && between 1 k 8
+anchorSettings m k = anchorLimits m && factorLimits k
 
 -- the copy's piece ends by the copy's bit count, the piece of p bits is no longer than a string, and the anchor's offset is not past p - m
 unfoldable pub anchorRange : (bits start q p s m : ℕ) → Bool

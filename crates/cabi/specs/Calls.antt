@@ -13,8 +13,8 @@ use Rattle.protocol.specs.declared.Settings.{Settings}
 use Rattle.protocol.specs.Limits.{withinLimits}
 use Rattle.protocol.specs.HolderCall.{Heard, declines, replies, unlessHeard, holderCall, freshHolder}
 use Rattle.protocol.specs.RebuilderCall.{Started, startDeclines, starts, unlessStarted, rebuilderStart, Taken, refuses, takes, unlessTaken, Rooms, rebuilderCall, stringAfter}
-use Rattle.cabi.specs.Layout.{holderBytes, holderOf, rebuilderBytes, rebuilderOf}
-use Rattle.cabi.specs.Sheet.{sheetBytesAfter}
+use Rattle.layout.specs.Layout.{holderBytes, holderOf, rebuilderBytes, rebuilderOf}
+use Rattle.layout.specs.Sheet.{sheetBytesAfter}
 use Rattle.cabi.specs.Packing.{packed}
 
 -- ---- a fresh holder: 9 where the state has too few bytes

@@ -1,7 +1,4 @@
--- What a reader must believe of the C interface: Bytes32, Layout, Sheet, Packing, Calls. The rest is laws.
-pub mod Bytes32
-pub mod Layout
-pub mod Sheet
+-- What a reader must believe of the C interface, and the laws of it.
 pub mod Packing
 pub mod Calls
 pub mod laws

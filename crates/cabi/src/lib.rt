@@ -5,12 +5,12 @@ ghost use mathlib.Core.List.{_++_};
 ghost use Prim.Native.Nat.{_*_, _≤_};
 ghost use lib.ListN.{length, drop};
 ghost use Rattle.codes.specs.Entries.{syndromeCall, hashCall, repairCall, leaves};
-ghost use Rattle.protocol.specs.laws.SheetRoom.{rowsNeeded};
+ghost use Rattle.protocol.specs.RebuilderCall.{rowsNeeded};
 ghost use Rattle.anchors.specs.AnchorSearch.{anchorSearch};
 ghost use Rattle.cabi.specs.Packing.{packed, numbered, outcomeNumber, placeNumber};
 ghost use Rattle.cabi.specs.Calls.{holderMade, holderOnBytes, holderLeft, startOnBytes, startLeft, rebuilderOnBytes, rebuilderLeft, roomsIn};
-ghost use Rattle.cabi.specs.Layout.{rebuilderBytes};
-ghost use Rattle.cabi.specs.Sheet.{sheetBytesAfter};
+ghost use Rattle.layout.specs.Layout.{rebuilderBytes};
+ghost use Rattle.layout.specs.Sheet.{sheetBytesAfter};
 use ends::HolderAnswer;
 use ends::RebuilderAnswer;
 use ends::StartAnswer;
@@ -18,10 +18,7 @@ use protocol::Rebuilder;
 use protocol::Settings;
 use protocol::SheetChange;
 
-mod layout;
-mod numbers;
 mod packing;
-mod sheet;
 
 // The syndrome of a string.
 #[no_mangle]
@@ -156,7 +153,7 @@ fn keep(state: &mut [u8], sheet: &mut [u8], st: Rebuilder, change: SheetChange, 
     ensures { λ r. ⌜ now (sheet .exit) ≡ sheetBytesAfter (now (sheet .entry)) change ⌝ }
 {
     layout::write_rebuilder(state, st);
-    sheet::apply_change(sheet, change);
+    layout::apply_change(sheet, change);
     (size as u64) * 16
 }
 

@@ -6,6 +6,7 @@ use Prim.Native.Nat.{ℕ, _+_}
 use lib.Dec.{eqb, leb}
 use Rattle.strings.specs.Bits.{range, bytesFor, pack, atFront}
 use Rattle.strings.specs.StringRule.{stringRule}
+use Rattle.strings.specs.SettingLimits.{hashLimits, keyLimits}
 use Rattle.strings.specs.Refusals.{refusalNumber}
 use Rattle.codes.specs.Syndrome.{syndrome}
 use Rattle.codes.specs.Repair.{repairTo}
@@ -32,7 +33,7 @@ syndromeCall s bits = unless (stringRule s bits) 2 (value (syndrome (range s 0 b
 -- ---- the hash: 1, 2, else the hash
 -- 01's limits of h and of the key
 unfoldable pub hashSettings : ℕ → ℕ → Bool
-hashSettings h key = leb 8 h && (leb h 32 && (leb 1 key && leb key 4294967295))
+hashSettings h key = hashLimits h && keyLimits key
 
 unfoldable pub hashCall : List ℕ → (bits h key : ℕ) → Answer ℕ
 hashCall s bits h key = unless (hashSettings h key) 1 (unless (stringRule s bits) 2 (value (hash h key (range s 0 bits))))

@@ -4,6 +4,7 @@ use mathlib.Core.List.{List, _++_}
 use Prim.Native.Nat.{ℕ, _+_}
 use lib.ListN.{length}
 use lib.Dec.{ltb, eqb}
+use Rattle.strings.specs.SettingLimits.{hashLimits, keyLimits}
 use Rattle.strings.specs.declared.Refusal.{Refusal}
 use Rattle.strings.specs.declared.Refusal.the-variants.{LeftOver, OutOfRange}
 use Rattle.messages.specs.declared.Kind.{Kind}
@@ -49,15 +50,14 @@ abbrev pub noQuestionIf : Bool → Refusal → QuestionRead → QuestionRead
 noQuestionIf true e q = NoQuestion e
 noQuestionIf false e q = q
 
--- an opening whose fields end at position end of size bytes: nothing may follow; version 1, h 8 to 32, key 1 or more
+-- an opening whose fields end at position end of size bytes: nothing may follow; version 1, h and key within the settings' limits
 abbrev pub openingIn : ℕ → ℕ → ℕ → ℕ → ℕ → QuestionRead
 openingIn size version h key end =
     noQuestionIf (ltb end size) LeftOver (
     noQuestionIf (not (eqb version 1)) OutOfRange (
-    noQuestionIf (ltb h 8) OutOfRange (
-    noQuestionIf (ltb 32 h) OutOfRange (
-    noQuestionIf (ltb key 1) OutOfRange (
-    Asked (AskOpen h key))))))
+    noQuestionIf (not (hashLimits h)) OutOfRange (
+    noQuestionIf (not (keyLimits key)) OutOfRange (
+    Asked (AskOpen h key)))))
 
 unfoldable pub openingAt : List ℕ → ℕ → QuestionRead
 openingAt s at =

@@ -1,19 +1,15 @@
 -- 01, "Strings and settings": the settings' limits and the house settings.
 use mathlib.Core.Bool.{Bool, _&&_}
-use Prim.Native.Nat.{ℕ, _≤_, _<_}
-use lib.Dec.{leb}
+use Prim.Native.Nat.{_≤_, _<_}
+use Rattle.strings.specs.SettingLimits.{anchorLimits, hashLimits, factorLimits, keyLimits, ceilingLimits}
 use Rattle.protocol.specs.declared.Settings.{Settings}
 
 abbrev pub houseSettings : Settings
 houseSettings = record { m = 16; h = 16; k = 2; key = 1; ceiling = 4096 }
 
--- whether v is lo to hi
-abbrev pub between : ℕ → ℕ → ℕ → Bool
-between lo v hi = leb lo v && leb v hi
-
--- anchor m 8 to 64 bits; hash h 8 to 32 bits; window factor k 1 to 8; key 1 to 2^32 - 1; ceiling 0 to 16,384 bytes
+-- each setting is within its limits
 unfoldable pub withinLimits : Settings → Bool
-withinLimits S = between 8 (S .m) 64 && (between 8 (S .h) 32 && (between 1 (S .k) 8 && (between 1 (S .key) 4294967295 && leb (S .ceiling) 16384)))
+withinLimits S = anchorLimits (S .m) && (hashLimits (S .h) && (factorLimits (S .k) && (keyLimits (S .key) && ceilingLimits (S .ceiling))))
 
 -- the same as a statement
 pub record Limits (S : Settings) : Type 0 where

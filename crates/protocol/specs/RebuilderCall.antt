@@ -88,6 +88,12 @@ sheetAfter sh NoRow = sh
 sheetAfter sh (AddRow i r) = sets sh i (r ∷ [])
 sheetAfter sh (OneRow used r) = sets sh 0 (r ∷ replicate (used - 1) noRow)
 
+-- how many rows a sheet needs for a change
+abbrev pub rowsNeeded : SheetChange → ℕ
+rowsNeeded NoRow = 0
+rowsNeeded (AddRow i r) = i + 1
+rowsNeeded (OneRow used r) = used - 1 + 1
+
 pub record Step : Type 0 where
   pub state : Rebuilder
   pub string : StringChange

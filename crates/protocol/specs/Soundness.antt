@@ -8,7 +8,8 @@ use Rattle.protocol.specs.declared.Settings.{Settings}
 use Rattle.protocol.specs.declared.Piece.{Piece}
 use Rattle.protocol.specs.declared.Rebuilder.{Rebuilder}
 use Rattle.protocol.specs.declared.Holder.{Holder}
-use Rattle.protocol.specs.Limits.{withinLimits, between}
+use Rattle.strings.specs.SettingLimits.{between, hashLimits}
+use Rattle.protocol.specs.Limits.{withinLimits}
 use Rattle.protocol.specs.Segments.{tooSmall}
 use Rattle.protocol.specs.Runs.{full}
 use Rattle.protocol.specs.States.{noPiece, held, top}
@@ -19,7 +20,7 @@ unfoldable pub holderSound : Holder → Bool
 holderSound st =
     cond (eqb (st .opened) 0)
     (eqb (st .bits) 0 && (eqb (st .h) 0 && (eqb (st .key) 0 && eqb (st .answers) 0)))
-    (eqb (st .opened) 1 && (leb (st .bits) 65536 && (between 8 (st .h) 32 && (leb 1 (st .key) && between 1 (st .answers) 1000000))))
+    (eqb (st .opened) 1 && (leb (st .bits) 65536 && (hashLimits (st .h) && (leb 1 (st .key) && between 1 (st .answers) 1000000))))
 
 -- ---- the rebuilder's pieces
 unfoldable pub isBlank : Piece → Bool

@@ -156,3 +156,8 @@ pub record Supposed (c : Lent) (r : Rebuilder) (q : List ℕ) (bs : List ℕ) (s
 
 abbrev pub Delivered : Lent → World → Type 0
 Delivered c (world H r bs sh q hs ts) = (l : List Answer) × Demand3 c H r bs sh q hs ts l
+
+-- 01, demand 3: for X, Y, settings and buffers as supposed, and every list of calls in which the rebuilder takes only the holder's answers
+abbrev pub DemandThree : Type 0
+DemandThree = (c : Lent) (r : Rebuilder) (q : List ℕ) (bs : List ℕ) (sh : List Row) → Supposed c r q bs sh
+    → (ks : List Call) → Fair c (firstWorld r q bs sh) ks → Delivered c (worldAfter c (firstWorld r q bs sh) ks)

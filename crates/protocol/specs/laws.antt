@@ -19,3 +19,4 @@ pub mod Asking
 pub mod SheetRoom
 pub mod HolderLaws
 pub mod Delivery
+pub mod CallLists

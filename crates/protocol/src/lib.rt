@@ -2,7 +2,8 @@
 ghost use mathlib.Core.Path.{_≡_};
 ghost use mathlib.Core.Bool.{Bool, true, false, _&&_};
 ghost use Prim.Native.Nat.{ℕ, _≤_};
-ghost use Rattle.protocol.specs.Limits.{houseSettings, withinLimits, between};
+ghost use Rattle.strings.specs.SettingLimits.{between};
+ghost use Rattle.protocol.specs.Limits.{houseSettings, withinLimits};
 
 // 01, "Strings and settings": anchor m, hash h, window factor k, key, ceiling.
 pub struct Settings {

@@ -1,5 +1,6 @@
--- What a reader must believe of strings (Bits, StringRule, Refusals), and the laws of it.
+-- What a reader must believe of strings, settings and refusals, and the laws of it.
 pub mod Bits
 pub mod StringRule
+pub mod SettingLimits
 pub mod Refusals
 pub mod laws

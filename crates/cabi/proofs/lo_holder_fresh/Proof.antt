@@ -1,7 +1,7 @@
 use mathlib.Core.Path.{ap, _∙_}
 use mathlib.Core.List.{_++_}
 use lib.ListN.{drop}
-use Rattle.cabi.specs.Layout.{holderBytes}
+use Rattle.layout.specs.Layout.{holderBytes}
 use Rattle.cabi.specs.laws.HolderBytesLaws.{fresh-short, fresh-whole}
 use borrow.Author.Needs.{needs}
 use Rattle.cabi.proofs.lo_holder_fresh.Statement.{statement}

@@ -26,8 +26,8 @@ use Rattle.protocol.specs.laws.SoundSteps.{fresh-sound}
 use Rattle.protocol.specs.RebuilderCall.{starts, unlessStarted, rebuilderStart, freshRebuilder, takes, unlessTaken, Step, Rooms, rebuilderCall}
 use Rattle.protocol.specs.laws.Asking.{unless-taken, call-sound}
 use Rattle.protocol.specs.laws.Delivery.{unless-started, started-is}
-use Rattle.cabi.specs.Layout.{rebuilderBytes, rebuilderOf}
-use Rattle.cabi.specs.laws.LayoutLaws.{PieceFits, RebuilderFits, rebuilder-read, rebuilder-back, rebuilder-pieces}
+use Rattle.layout.specs.Layout.{rebuilderBytes, rebuilderOf}
+use Rattle.layout.specs.laws.LayoutLaws.{PieceFits, RebuilderFits, rebuilder-read, rebuilder-back, rebuilder-pieces}
 use Rattle.cabi.specs.Calls.{startOnBytes, rebuilderOnBytes}
 
 -- ---- every number of a sound state is below 2^32

@@ -32,9 +32,9 @@ use Rattle.protocol.specs.laws.HolderLaws.{unless-heard, heard-call, Made, open
 use Rattle.holder.specs.declared.HolderAnswer.the-variants.{Replied, Refused}
 use Rattle.holder.specs.declared.HolderOut.{HolderOut}
 use Rattle.holder.specs.HolderOutcome.{HolderSaid, answerSaid, saidHolder, leavesHolder}
-use Rattle.cabi.specs.Layout.{holderBytes, holderOf}
-use Rattle.cabi.specs.laws.LayoutLaws.{HolderFits, holder-back, length-holder}
-use Rattle.cabi.specs.laws.Bytes32Laws.{number-below}
+use Rattle.layout.specs.Layout.{holderBytes, holderOf}
+use Rattle.layout.specs.laws.LayoutLaws.{HolderFits, holder-back, length-holder}
+use Rattle.layout.specs.laws.Bytes32Laws.{number-below}
 use Rattle.cabi.specs.Packing.{packed}
 use Rattle.cabi.specs.Calls.{holderMade, holderOnBytes, holderLeft}
 

@@ -24,10 +24,9 @@ use Rattle.protocol.specs.declared.Settings.{Settings}
 use Rattle.protocol.specs.declared.Rebuilder.{Rebuilder}
 use Rattle.protocol.specs.Limits.{withinLimits}
 use Rattle.protocol.specs.States.{planned}
-use Rattle.protocol.specs.RebuilderCall.{Started, startDeclines, starts, rebuilderStart, Taken, refuses, takes, Step, Rooms, rebuilderCall, writtenQuestion, stepOf, stringAfter}
+use Rattle.protocol.specs.RebuilderCall.{Started, startDeclines, starts, rebuilderStart, Taken, refuses, takes, Step, Rooms, rebuilderCall, writtenQuestion, stepOf, stringAfter, rowsNeeded}
 use Rattle.protocol.specs.laws.Asking.{TakenCall, taken-call}
 use Rattle.protocol.specs.laws.Delivery.{started-is}
-use Rattle.protocol.specs.laws.SheetRoom.{rowsNeeded}
 use Rattle.rebuilder.specs.declared.StartAnswer.the-variants.{Begun, NotBegun}
 use Rattle.rebuilder.specs.declared.StartOut.{StartOut}
 use Rattle.rebuilder.specs.declared.RebuilderAnswer.{RebuilderAnswer}
@@ -35,9 +34,9 @@ use Rattle.rebuilder.specs.declared.RebuilderAnswer.the-variants.{Asks, Finishe
 use Rattle.rebuilder.specs.declared.RebuilderOut.{RebuilderOut}
 use Rattle.rebuilder.specs.RebuilderOutcome.{startSaid, StartSaid, saidStart, leavesStart, callSaid, RebuilderSaid, saidRebuilder, nextSize, leavesRebuilder}
 use Rattle.ends.specs.laws.SheetCallLaws.{change-fits}
-use Rattle.cabi.specs.Layout.{rebuilderBytes, rebuilderOf}
-use Rattle.cabi.specs.laws.LayoutLaws.{length-rebuilder}
-use Rattle.cabi.specs.Sheet.{sheetBytesAfter}
+use Rattle.layout.specs.Layout.{rebuilderBytes, rebuilderOf}
+use Rattle.layout.specs.laws.LayoutLaws.{length-rebuilder}
+use Rattle.layout.specs.Sheet.{sheetBytesAfter}
 use Rattle.cabi.specs.Packing.{packed}
 use Rattle.cabi.specs.Calls.{startOnBytes, startLeft, rebuilderOnBytes, roomsIn, rebuilderLeft}
 

@@ -48,7 +48,7 @@ module _ (h key : ℕ) where
 
   pub hash-settings-high : 32 < h → false ≡ hashSettings h key
   unfolding hashSettings
-  hash-settings-high p = rw (lt-leb h 32 p) (sym (and-false (leb 8 h)))
+  hash-settings-high p = rw (lt-leb h 32 p, and-false (leb 8 h)) refl
 
   pub hash-settings-key : 8 ≤ h → h ≤ 32 → key < 4294967296 → leb 1 key ≡ hashSettings h key
   unfolding hashSettings
@@ -57,8 +57,8 @@ module _ (h key : ℕ) where
   pub hash-settings-width : hashSettings h key ≡ true → (8 ≤ h) × (h ≤ 32)
   unfolding hashSettings
   hash-settings-width e =
-      let r = and-right (leb 8 h) (leb h 32 && (leb 1 key && leb key 4294967295)) e in
-      (leb-true 8 h (and-left (leb 8 h) (leb h 32 && (leb 1 key && leb key 4294967295)) e), leb-true h 32 (and-left (leb h 32) (leb 1 key && leb key 4294967295) r))
+      let w = and-left (leb 8 h && leb h 32) (leb 1 key && leb key 4294967295) e in
+      (leb-true 8 h (and-left (leb 8 h) (leb h 32) w), leb-true h 32 (and-right (leb 8 h) (leb h 32) w))
 
 module _ (bits n a : ℕ) where
   pub repair-range-long : 65536 < n → false ≡ repairRange bits n a

@@ -9,8 +9,8 @@ use lib.Seq.{sets, length-sets}
 use Rattle.protocol.specs.declared.Holder.{Holder}
 use Rattle.protocol.specs.declared.Rebuilder.{Rebuilder}
 use Rattle.protocol.specs.declared.Row.{Row}
-use Rattle.protocol.specs.RebuilderCall.{Rooms, Step, Taken, noRow, rebuilderCall, refuses, sheetAfter, takes}
-use Rattle.protocol.specs.laws.SheetRoom.{rowsNeeded, taken-rows}
+use Rattle.protocol.specs.RebuilderCall.{Rooms, Step, Taken, noRow, rebuilderCall, refuses, sheetAfter, takes, rowsNeeded}
+use Rattle.protocol.specs.laws.SheetRoom.{taken-rows}
 use Rattle.protocol.specs.Worlds.{afterTaken, world}
 use Rattle.rebuilder.specs.declared.RebuilderOut.{RebuilderOut}
 use Rattle.rebuilder.specs.RebuilderOutcome.{RebuilderSaid, saidRebuilder, leavesRebuilder}

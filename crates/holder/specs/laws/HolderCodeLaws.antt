@@ -34,7 +34,7 @@ use Rattle.messages.specs.Answers.{Answer, sizeAnswer, hashAnswer, syndromeAnsw
 use Rattle.messages.specs.Writing.{Outcome, leaves, putFront}
 use Rattle.protocol.specs.declared.Holder.{Holder}
 use Rattle.protocol.specs.Anchors.{part}
-use Rattle.protocol.specs.Limits.{between}
+use Rattle.strings.specs.SettingLimits.{between}
 use Rattle.protocol.specs.Soundness.{holderSound}
 use Rattle.protocol.specs.HolderCall.{Heard, declines, sameBitCount, inTurn, sends, answersTo, ofKind, holderCall}
 use Rattle.holder.specs.declared.HolderOut.{HolderOut}

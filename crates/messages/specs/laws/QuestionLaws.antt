@@ -6,8 +6,10 @@ use Prim.Native.Nat.{ℕ, _+_, _≤_, _<_}
 use native.Mathlib.Omega.{arith}
 use lib.ListN.{length, drop, length-append}
 use lib.Seq.{drop-at}
-use lib.Dec.{ltb, eqb}
-use borrow.Author.Tests.{le-ltb, ltb-false, eqb-true, not-false}
+use lib.Dec.{leb, ltb, eqb}
+use borrow.Author.Tests.{le-ltb, ltb-false, le-leb, leb-true, eqb-true, not-false}
+use Rattle.strings.specs.SettingLimits.{hashLimits, keyLimits}
+use Rattle.strings.specs.laws.Tests.{and-left, and-right}
 use Rattle.strings.specs.laws.PackLaws.{Bytes}
 use Rattle.strings.specs.declared.Refusal.{Refusal}
 use Rattle.messages.specs.declared.Kind.{Kind}
@@ -161,7 +163,7 @@ opening-reads s at h key w m d =
     let z = size-some 1 in
     let l = ends-there s (number 1 ++ (number h ++ number key)) at d (omega arith) in
     opening-three s at refl (number-reads s (number h ++ number key) at 1 (omega arith) d) refl (number-reads s (number key) b h (omega arith) d₁) refl (number-reads-last s c key m d₂)
-    ∙ rw (le-ltb (c + length (number key)) (length s) (omega arith), le-ltb h 8 (w .h-least), le-ltb 32 h (w .h-most), le-ltb key 1 (w .key-least)) refl
+    ∙ rw (le-ltb (c + length (number key)) (length s) (omega arith), le-leb 8 h (w .h-least), le-leb h 32 (w .h-most), le-leb 1 key (w .key-least), le-leb key 4294967295 (omega arith)) refl
 
 pub range-reads : (ask : ℕ → ℕ → Question) (s : List ℕ) (at n start len : ℕ) → n ≤ 65536 → RangeWithin n start len → drop at s ≡ number start ++ number len → rangeAt ask s at n ≡ Asked (ask start len)
 range-reads ask s at n start len m w d =
@@ -231,9 +233,9 @@ opening-read s at q =
     asked-then q (numberAt s c) _ (λ key end e₃.
     asked-if q (ltb end (length s)) _ _ (λ t₁.
     asked-if q (not (eqb version 1)) _ _ (λ t₂.
-    asked-if q (ltb h 8) _ _ (λ t₃.
-    asked-if q (ltb 32 h) _ _ (λ t₄.
-    asked-if q (ltb key 1) _ _ (λ t₅ e.
+    asked-if q (not (hashLimits h)) _ _ (λ t₃.
+    asked-if q (not (keyLimits key)) _ _ (λ t₄ e.
+    let u = not-false (hashLimits h) t₃ in
     record {
       h = h;
       key = key;
@@ -244,9 +246,9 @@ opening-read s at q =
       second = e₂;
       third = e₃;
       nothing = ltb-false end (length s) t₁;
-      within = record { h-least = ltb-false h 8 t₃; h-most = ltb-false 32 h t₄; key-least = ltb-false key 1 t₅ };
+      within = record { h-least = leb-true 8 h (and-left (leb 8 h) (leb h 32) u); h-most = leb-true h 32 (and-right (leb 8 h) (leb h 32) u); key-least = leb-true 1 key (and-left (leb 1 key) (leb key 4294967295) (not-false (keyLimits key) t₄)) };
       is = asked-is e;
-    }))))))))
+    })))))))
 
 -- the numbers that a range was read from
 record RangeRead (ask : ℕ → ℕ → Question) (s : List ℕ) (at n : ℕ) (q : Question) : Type 0 where

@@ -21,7 +21,7 @@ use Rattle.messages.specs.declared.Question.the-variants.{AskBits, AskHash, Ask
 use Rattle.messages.specs.declared.QuestionRead.{QuestionRead}
 use Rattle.messages.specs.declared.QuestionRead.the-variants.{Asked, NoQuestion}
 use Rattle.protocol.specs.HolderCall.{Heard, afterAnswer, answersTo, freshHolder, holderCall, inTurn, ofKind, replies, sameBitCount, sends, unlessHeard}
-use Rattle.protocol.specs.Limits.{between}
+use Rattle.strings.specs.SettingLimits.{between}
 use Rattle.protocol.specs.Runs.{answer}
 use Rattle.protocol.specs.laws.SoundLaws.{both}
 use Rattle.protocol.specs.Soundness.{holderSound}

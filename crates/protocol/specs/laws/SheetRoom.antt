@@ -11,7 +11,7 @@ use Rattle.strings.specs.Bits.{bytesFor, range}
 use Rattle.strings.specs.laws.Tests.{and-left, and-right}
 use Rattle.messages.specs.Answers.{Answer}
 use Rattle.protocol.specs.laws.Asking.{TakenCall, taken-call}
-use Rattle.protocol.specs.RebuilderCall.{Rooms, Step, bitsKnown, effectStep, numberedStage, openingStep, rebuilderCall, roomFor, stepOf, takes, wholeStep}
+use Rattle.protocol.specs.RebuilderCall.{Rooms, Step, bitsKnown, effectStep, numberedStage, openingStep, rebuilderCall, roomFor, rowsNeeded, stepOf, takes, wholeStep}
 use Rattle.protocol.specs.Segments.{Effect, effect, settles, splits, stays}
 use Rattle.protocol.specs.laws.SoundParts.{PhaseOf, isOpening, isPieces, isWhole, phase-of, sound-is}
 use Rattle.protocol.specs.Soundness.{rowsLeft}
@@ -19,14 +19,6 @@ use Rattle.protocol.specs.States.{held, top}
 use Rattle.protocol.specs.laws.Steps.{step-opening, step-pieces, step-whole}
 use Rattle.protocol.specs.declared.Piece.{Piece}
 use Rattle.protocol.specs.declared.Rebuilder.{Rebuilder}
-use Rattle.protocol.specs.declared.SheetChange.{SheetChange}
-use Rattle.protocol.specs.declared.SheetChange.the-variants.{NoRow, AddRow, OneRow}
-
--- how many rows a sheet needs for a change
-abbrev pub rowsNeeded : SheetChange → ℕ
-rowsNeeded NoRow = 0
-rowsNeeded (AddRow i r) = i + 1
-rowsNeeded (OneRow used r) = used - 1 + 1
 
 -- waiting pieces leave room for a row
 rows-some : (m w : ℕ) (l : List Piece) → 0 < w → 1 ≤ rowsLeft m (held w l)

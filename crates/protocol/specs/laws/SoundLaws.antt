@@ -10,7 +10,8 @@ use lib.ListN.{length, getD}
 use lib.Dec.{leb, ltb, eqb, lit≤}
 use borrow.Author.Tests.{eqb-true, ltb-true, leb-true, le-leb, lt-ltb, ne-eqb}
 use Rattle.protocol.specs.Soundness.{bound, blankFrom, inOrder, isBlank, pieceFits, stageFits}
-use Rattle.protocol.specs.Limits.{Limits, between, withinLimits}
+use Rattle.strings.specs.SettingLimits.{between}
+use Rattle.protocol.specs.Limits.{Limits, withinLimits}
 use Rattle.protocol.specs.laws.Moves.{Blank}
 use Rattle.protocol.specs.RebuilderCall.{numberedStage}
 use Rattle.protocol.specs.laws.Right.{Fits, StageOk, later-ok}

@@ -45,8 +45,7 @@ use denote.Signature.{plain}
 use Rattle.protocol.specs.declared.Row.{Row}
 use Rattle.protocol.specs.declared.SheetChange.{SheetChange}
 use Rattle.protocol.specs.declared.SheetChange.the-variants.{NoRow, AddRow, OneRow}
-use Rattle.protocol.specs.RebuilderCall.{sheetAfter}
-use Rattle.protocol.specs.laws.SheetRoom.{rowsNeeded}
+use Rattle.protocol.specs.RebuilderCall.{sheetAfter, rowsNeeded}
 use Rattle.protocol.proofs.Row as T
 use Rattle.protocol.proofs.Row.Laws as T′
 use Rattle.protocol.proofs.SheetChange as E

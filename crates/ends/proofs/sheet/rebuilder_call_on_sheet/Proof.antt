@@ -45,8 +45,7 @@ use denote.Signature.{plain}
 use Rattle.protocol.specs.declared.Row.{Row}
 use Rattle.protocol.specs.declared.Rebuilder.{Rebuilder}
 use Rattle.protocol.specs.declared.SheetChange.{SheetChange}
-use Rattle.protocol.specs.RebuilderCall.{rebuilderCall, sheetAfter}
-use Rattle.protocol.specs.laws.SheetRoom.{rowsNeeded}
+use Rattle.protocol.specs.RebuilderCall.{rebuilderCall, sheetAfter, rowsNeeded}
 use Rattle.protocol.proofs.Row as T
 use Rattle.protocol.proofs.Rebuilder as R
 use Rattle.protocol.proofs.Rebuilder.Laws as R′

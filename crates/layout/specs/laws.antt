@@ -1,0 +1,4 @@
+-- Laws of the definitions, for proofs.
+pub mod Bytes32Laws
+pub mod LayoutLaws
+pub mod SheetLaws

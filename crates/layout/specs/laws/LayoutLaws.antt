@@ -1,0 +1,294 @@
+-- Lengths of the layouts; reading a state's bytes gives the state.
+use mathlib.Core.Path.{_≡_, refl, sym, ap, ap₂, _∙_}
+use mathlib.Core.List.{List, [], _∷_, _++_, append-assoc, append-nil}
+use Prim.Native.Nat.{ℕ, zero, suc, _+_, _-_, _*_, _≤_, _<_}
+use native.Mathlib.Nat.{add-zero}
+use native.Mathlib.Omega.{arith}
+use native.Mathlib.Numerals.{add-one}
+use lib.ListN.{length, getD, set, take, drop, length-append, length-replicate, replicate}
+use lib.Seq.{sets, drop-cons, take-all}
+use Rattle.protocol.specs.declared.Settings.{Settings}
+use Rattle.protocol.specs.declared.Holder.{Holder}
+use Rattle.protocol.specs.declared.Piece.{Piece}
+use Rattle.protocol.specs.declared.Rebuilder.{Rebuilder}
+use Rattle.protocol.specs.States.{noPiece}
+use Rattle.layout.specs.Bytes32.{bytesOf, numberAt}
+use Rattle.layout.specs.Layout.{allBytes, holderBytes, holderOf, pieceBytes, pieceAt, piecesBytes, piecesAt, fieldBytes, rebuilderBytes, fieldsOf, rebuilderOf}
+use Rattle.strings.specs.laws.StoreLaws.{sets-append, sets-front}
+use Rattle.layout.specs.laws.Bytes32Laws.{digits, number-behind}
+
+-- ---- lengths
+pub length-holder : (st : Holder) → length (holderBytes st) ≡ 20
+unfolding holderBytes allBytes bytesOf
+length-holder st = refl
+
+pub length-piece : (pc : Piece) → length (pieceBytes pc) ≡ 16
+unfolding pieceBytes allBytes bytesOf
+length-piece pc = refl
+
+pub length-pieces : (l : List Piece) (i n : ℕ) → length (piecesBytes l i n) ≡ 16 * n
+unfolding piecesBytes
+length-pieces l i zero = refl
+length-pieces l i (suc n) =
+    let a = length-append (pieceBytes (getD l i noPiece)) (piecesBytes l (suc i) n) in
+    let b = length-piece (getD l i noPiece) in
+    let c = length-pieces l (suc i) n in
+    omega arith
+
+pub length-fields : (st : Rebuilder) → length (fieldBytes st) ≡ 52
+unfolding fieldBytes allBytes bytesOf
+length-fields st = refl
+
+pub length-rebuilder : (st : Rebuilder) → length (rebuilderBytes st) ≡ 564
+unfolding rebuilderBytes
+length-rebuilder st =
+    let a = length-append (fieldBytes st) (piecesBytes (st .pieces) 0 32) in
+    let b = length-fields st in
+    let c = length-pieces (st .pieces) 0 32 in
+    omega arith
+
+length-piecesAt : (s : List ℕ) (at n : ℕ) → length (piecesAt s at n) ≡ n
+unfolding piecesAt
+length-piecesAt s at zero = refl
+length-piecesAt s at (suc n) = ap suc (length-piecesAt s (at + 16) n)
+
+-- what is read is a state with 32 pieces
+pub rebuilder-pieces : (s : List ℕ) → length (rebuilderOf s .pieces) ≡ 32
+unfolding rebuilderOf fieldsOf
+rebuilder-pieces s = length-piecesAt s 52 32
+
+-- ---- every number of a state is below 2^32, as of any state that code holds
+pub record HolderFits (st : Holder) : Type 0 where
+  pub opened-fits : st .opened < 4294967296
+  pub bits-fits : st .bits < 4294967296
+  pub h-fits : st .h < 4294967296
+  pub key-fits : st .key < 4294967296
+  pub answers-fits : st .answers < 4294967296
+
+pub record PieceFits (pc : Piece) : Type 0 where
+  pub x-fits : pc .x < 4294967296
+  pub p-fits : pc .p < 4294967296
+  pub y-fits : pc .y < 4294967296
+  pub q-fits : pc .q < 4294967296
+
+pub record SettingsFit (S : Settings) : Type 0 where
+  pub m-fits : S .m < 4294967296
+  pub h-fits : S .h < 4294967296
+  pub k-fits : S .k < 4294967296
+  pub key-fits : S .key < 4294967296
+  pub ceiling-fits : S .ceiling < 4294967296
+
+pub record RebuilderFits (st : Rebuilder) : Type 0 where
+  pub settings-fit : SettingsFit (st .settings)
+  pub ybits-fits : st .ybits < 4294967296
+  pub phase-fits : st .phase < 4294967296
+  pub n-fits : st .n < 4294967296
+  pub answered-fits : st .answered < 4294967296
+  pub counted-fits : st .counted < 4294967296
+  pub rows-fits : st .rows < 4294967296
+  pub stage-fits : st .stage < 4294967296
+  pub waiting-fits : st .waiting < 4294967296
+  pub pieces-fit : (i : ℕ) → PieceFits (getD (st .pieces) i noPiece)
+  pub pieces-number : length (st .pieces) ≡ 32
+
+-- ---- the holder: reading its bytes, whatever follows them
+pub holder-same : {a b c d e a′ b′ c′ d′ e′ : ℕ} → a ≡ a′ → b ≡ b′ → c ≡ c′ → d ≡ d′ → e ≡ e′
+    → _≡_ {A = Holder} (record { opened = a; bits = b; h = c; key = d; answers = e }) (record { opened = a′; bits = b′; h = c′; key = d′; answers = e′ })
+holder-same p q r s t = rw (p, q, r, s, t) refl
+
+pub holder-read : (st : Holder) (l : List ℕ) → HolderFits st → holderOf (holderBytes st ++ l) ≡ st
+unfolding holderOf holderBytes allBytes bytesOf numberAt
+holder-read st l f =
+    holder-same (digits (st .opened) (f .opened-fits)) (digits (st .bits) (f .bits-fits)) (digits (st .h) (f .h-fits)) (digits (st .key) (f .key-fits))
+    (digits (st .answers) (f .answers-fits))
+
+pub holder-back : (st : Holder) → HolderFits st → holderOf (holderBytes st) ≡ st
+holder-back st f = ap holderOf (sym (append-nil (holderBytes st))) ∙ holder-read st [] f
+
+-- ---- pieces
+pub piece-same : {a b c d a′ b′ c′ d′ : ℕ} → a ≡ a′ → b ≡ b′ → c ≡ c′ → d ≡ d′
+    → _≡_ {A = Piece} (record { x = a; p = b; y = c; q = d }) (record { x = a′; p = b′; y = c′; q = d′ })
+piece-same p q r s = rw (p, q, r, s) refl
+
+piece-read : (pc : Piece) (b l : List ℕ) → PieceFits pc → pieceAt (b ++ (pieceBytes pc ++ l)) (length b) ≡ pc
+unfolding pieceAt pieceBytes allBytes bytesOf numberAt
+piece-read pc b l f =
+    piece-same
+    (ap (λ (i : ℕ). numberAt (b ++ (pieceBytes pc ++ l)) i) (sym (add-zero (length b))) ∙ number-behind b (pieceBytes pc ++ l) 0 ∙ digits (pc .x) (f .x-fits))
+    (number-behind b (pieceBytes pc ++ l) 4 ∙ digits (pc .p) (f .p-fits))
+    (number-behind b (pieceBytes pc ++ l) 8 ∙ digits (pc .y) (f .y-fits))
+    (number-behind b (pieceBytes pc ++ l) 12 ∙ digits (pc .q) (f .q-fits))
+
+-- the n pieces of a list from number i on
+abbrev some : List Piece → (i n : ℕ) → List Piece
+some l i zero = []
+some l i (suc n) = getD l i noPiece ∷ some l (suc i) n
+
+some-is : (l : List Piece) (i n : ℕ) → i + n ≤ length l → some l i n ≡ take n (drop i l)
+some-is l i zero h = refl
+some-is l i (suc n) h = rw (drop-cons l i noPiece (omega arith)) (ap (λ (m : List Piece). getD l i noPiece ∷ m) (some-is l (suc i) n (omega arith)))
+
+pieces-read : (l : List Piece) (i n : ℕ) (b r : List ℕ) → ((j : ℕ) → PieceFits (getD l j noPiece)) → piecesAt (b ++ (piecesBytes l i n ++ r)) (length b) n ≡ some l i n
+unfolding piecesAt piecesBytes
+pieces-read l i zero b r f = refl
+pieces-read l i (suc n) b r f =
+    let e = append-assoc (pieceBytes (getD l i noPiece)) (piecesBytes l (suc i) n) r in
+    let t : b ++ (pieceBytes (getD l i noPiece) ++ (piecesBytes l (suc i) n ++ r)) ≡ (b ++ pieceBytes (getD l i noPiece)) ++ (piecesBytes l (suc i) n ++ r)
+    = sym (append-assoc b (pieceBytes (getD l i noPiece)) (piecesBytes l (suc i) n ++ r)) in
+    let k : length b + 16 ≡ length (b ++ pieceBytes (getD l i noPiece))
+    = (let a = length-append b (pieceBytes (getD l i noPiece)) in let c = length-piece (getD l i noPiece) in omega arith) in
+    ap (λ (m : List ℕ). pieceAt (b ++ m) (length b) ∷ piecesAt (b ++ m) (length b + 16) n) e
+    ∙ ap₂ (λ (x : Piece) (y : List Piece). x ∷ y) (piece-read (getD l i noPiece) b (piecesBytes l (suc i) n ++ r) (f i))
+    (ap₂ (λ (m : List ℕ) (a : ℕ). piecesAt m a n) t k ∙ pieces-read l (suc i) n (b ++ pieceBytes (getD l i noPiece)) r f)
+
+-- ---- the rebuilder
+pub settings-same : {a b c d e a′ b′ c′ d′ e′ : ℕ} → a ≡ a′ → b ≡ b′ → c ≡ c′ → d ≡ d′ → e ≡ e′
+    → _≡_ {A = Settings} (record { m = a; h = b; k = c; key = d; ceiling = e }) (record { m = a′; h = b′; k = c′; key = d′; ceiling = e′ })
+settings-same p q r s t = rw (p, q, r, s, t) refl
+
+pub state-same : {S S′ : Settings} {a b c d e f g h a′ b′ c′ d′ e′ f′ g′ h′ : ℕ} {l l′ : List Piece}
+    → S ≡ S′ → a ≡ a′ → b ≡ b′ → c ≡ c′ → d ≡ d′ → e ≡ e′ → f ≡ f′ → g ≡ g′ → h ≡ h′ → l ≡ l′
+    → _≡_ {A = Rebuilder}
+    (record { settings = S; ybits = a; phase = b; n = c; answered = d; counted = e; rows = f; stage = g; waiting = h; pieces = l })
+    (record { settings = S′; ybits = a′; phase = b′; n = c′; answered = d′; counted = e′; rows = f′; stage = g′; waiting = h′; pieces = l′ })
+state-same o p q r s t u v w x = rw (o, p, q, r, s, t, u, v, w, x) refl
+
+pieces-back : (st : Rebuilder) (l : List ℕ) → RebuilderFits st → piecesAt (rebuilderBytes st ++ l) 52 32 ≡ st .pieces
+unfolding rebuilderBytes
+pieces-back st l f =
+    ap₂ (λ (m : List ℕ) (a : ℕ). piecesAt m a 32) (append-assoc (fieldBytes st) (piecesBytes (st .pieces) 0 32) l) (sym (length-fields st))
+    ∙ pieces-read (st .pieces) 0 32 (fieldBytes st) l (f .pieces-fit)
+    ∙ some-is (st .pieces) 0 32 (let e = f .pieces-number in omega arith)
+    ∙ take-all 32 (st .pieces) (let e = f .pieces-number in omega arith)
+
+pub rebuilder-read : (st : Rebuilder) (l : List ℕ) → RebuilderFits st → rebuilderOf (rebuilderBytes st ++ l) ≡ st
+unfolding rebuilderOf fieldsOf rebuilderBytes fieldBytes allBytes bytesOf numberAt
+rebuilder-read st l f =
+    let g = f .settings-fit in
+    state-same
+    (settings-same (digits (st .settings .m) (g .m-fits)) (digits (st .settings .h) (g .h-fits)) (digits (st .settings .k) (g .k-fits))
+    (digits (st .settings .key) (g .key-fits)) (digits (st .settings .ceiling) (g .ceiling-fits)))
+    (digits (st .ybits) (f .ybits-fits))
+    (digits (st .phase) (f .phase-fits))
+    (digits (st .n) (f .n-fits))
+    (digits (st .answered) (f .answered-fits))
+    (digits (st .counted) (f .counted-fits))
+    (digits (st .rows) (f .rows-fits))
+    (digits (st .stage) (f .stage-fits))
+    (digits (st .waiting) (f .waiting-fits))
+    (pieces-back st l f)
+
+pub rebuilder-back : (st : Rebuilder) → RebuilderFits st → rebuilderOf (rebuilderBytes st) ≡ st
+rebuilder-back st f = ap rebuilderOf (sym (append-nil (rebuilderBytes st))) ∙ rebuilder-read st [] f
+
+-- ---- for the code
+-- a list stored right behind another
+pub store-next : (s t u : List ℕ) (at i : ℕ) (a b : List ℕ) → t ≡ sets s at a → u ≡ sets t i b → i ≡ at + length a → u ≡ sets s at (a ++ b)
+store-next s t u at i a b e f g = f ∙ rw (e, g) (sym (sets-append s a b at))
+
+-- numbers stored one after the other
+pub two-stored : (s t u : List ℕ) (at a b : ℕ) → t ≡ sets s at (bytesOf a) → u ≡ sets t (at + 4) (bytesOf b) → u ≡ sets s at (allBytes (a ∷ b ∷ []))
+unfolding allBytes bytesOf
+two-stored s t u at a b e f = store-next s t u at (at + 4) (bytesOf a) (bytesOf b) e f refl
+
+pub four-stored : (s t u : List ℕ) (at a b c d : ℕ) → t ≡ sets s at (allBytes (a ∷ b ∷ [])) → u ≡ sets t (at + 8) (allBytes (c ∷ d ∷ []))
+    → u ≡ sets s at (allBytes (a ∷ b ∷ c ∷ d ∷ []))
+unfolding allBytes bytesOf
+four-stored s t u at a b c d e f = store-next s t u at (at + 8) (allBytes (a ∷ b ∷ [])) (allBytes (c ∷ d ∷ [])) e f refl
+
+-- a turn of the loop that writes the pieces, and its end
+pub pieces-turn : (s t u : List ℕ) (l : List Piece) (at i : ℕ) → i < 32 → t ≡ sets s (at + 16 * i) (pieceBytes (getD l i noPiece))
+    → sets s (at + 16 * i) (piecesBytes l i (32 - i)) ≡ u → sets t (at + 16 * (i + 1)) (piecesBytes l (i + 1) (32 - (i + 1))) ≡ u
+unfolding piecesBytes
+pieces-turn s t u l at i h e f =
+    let b : List ℕ = pieceBytes (getD l i noPiece) in
+    let r : List ℕ = piecesBytes l (suc i) (31 - i) in
+    let k : suc (31 - i) ≡ 32 - i = omega arith in
+    let m : 32 - (i + 1) ≡ 31 - i = omega arith in
+    let o : at + 16 * (i + 1) ≡ at + 16 * i + length (pieceBytes (getD l i noPiece)) = (let q = length-piece (getD l i noPiece) in omega arith) in
+    ap₂ (λ (x : ℕ) (y : List ℕ). sets t x y) o (ap₂ (λ (x y : ℕ). piecesBytes l x y) (add-one i) m)
+    ∙ ap (λ (x : List ℕ). sets x (at + 16 * i + length b) r) e
+    ∙ sym (sets-append s b r (at + 16 * i))
+    ∙ ap (λ (n : ℕ). sets s (at + 16 * i) (piecesBytes l i n)) k
+    ∙ f
+
+pub pieces-end : (s u : List ℕ) (l : List Piece) (at i : ℕ) → 32 ≤ i → sets s (at + 16 * i) (piecesBytes l i (32 - i)) ≡ u → s ≡ u
+unfolding piecesBytes
+pieces-end s u l at i h f = let k : 0 ≡ 32 - i = omega arith in ap (λ (n : ℕ). sets s (at + 16 * i) (piecesBytes l i n)) k ∙ f
+
+-- a state with other pieces
+abbrev pub withPieces : Rebuilder → List Piece → Rebuilder
+withPieces st l = record {
+  settings = st .settings;
+  ybits = st .ybits;
+  phase = st .phase;
+  n = st .n;
+  answered = st .answered;
+  counted = st .counted;
+  rows = st .rows;
+  stage = st .stage;
+  waiting = st .waiting;
+  pieces = l;
+}
+
+-- the loop that reads the pieces: its start, a turn and its end
+pub read-start : (st : Rebuilder) (s : List ℕ) → st ≡ fieldsOf s (replicate 32 noPiece) → withPieces st (sets (st .pieces) 0 (piecesAt s (52 + 16 * 0) (32 - 0))) ≡ rebuilderOf s
+unfolding rebuilderOf fieldsOf
+read-start st s e = ap (λ (r : Rebuilder). withPieces r (sets (r .pieces) 0 (piecesAt s 52 32))) e ∙ ap (λ (l : List Piece). fieldsOf s l) (all (piecesAt s 52 32) (length-piecesAt s 52 32))
+  where
+    all : (l : List Piece) → length l ≡ 32 → sets (replicate 32 noPiece) 0 l ≡ l
+    all l k = sets-front (replicate 32 noPiece) l (let e = length-replicate 32 noPiece in omega arith) ∙ ap (λ (n : ℕ). l ++ drop n (replicate 32 noPiece)) k ∙ append-nil l
+
+pub read-turn : (st : Rebuilder) (s : List ℕ) (u : Rebuilder) (i : ℕ) (pc : Piece) → i < 32 → pc ≡ pieceAt s (52 + 16 * i)
+    → withPieces st (sets (st .pieces) i (piecesAt s (52 + 16 * i) (32 - i))) ≡ u
+    → withPieces st (sets (set (st .pieces) i pc) (i + 1) (piecesAt s (52 + 16 * (i + 1)) (32 - (i + 1)))) ≡ u
+unfolding piecesAt
+read-turn st s u i pc h e f =
+    let k : suc (31 - i) ≡ 32 - i = omega arith in
+    let m : 32 - (i + 1) ≡ 31 - i = omega arith in
+    let o : 52 + 16 * (i + 1) ≡ 52 + 16 * i + 16 = omega arith in
+    ap (λ (l : List Piece). withPieces st l)
+    (ap₂ (λ (x : ℕ) (y : List Piece). sets (set (st .pieces) i pc) x y) (add-one i) (ap₂ (λ (x y : ℕ). piecesAt s x y) o m)
+    ∙ ap (λ (x : Piece). sets (set (st .pieces) i x) (suc i) (piecesAt s (52 + 16 * i + 16) (31 - i))) e
+    ∙ ap (λ (n : ℕ). sets (st .pieces) i (piecesAt s (52 + 16 * i) n)) k)
+    ∙ f
+
+pub read-end : (st : Rebuilder) (s : List ℕ) (u : Rebuilder) (i : ℕ) → 32 ≤ i → withPieces st (sets (st .pieces) i (piecesAt s (52 + 16 * i) (32 - i))) ≡ u → st ≡ u
+unfolding piecesAt
+read-end st s u i h f = let k : 0 ≡ 32 - i = omega arith in ap (λ (n : ℕ). withPieces st (sets (st .pieces) i (piecesAt s (52 + 16 * i) n))) k ∙ f
+
+-- ---- whole states at the front of the bytes
+pub holder-front : (s : List ℕ) (st : Holder) → 20 ≤ length s → sets s 0 (holderBytes st) ≡ holderBytes st ++ drop 20 s
+holder-front s st h =
+    sets-front s (holderBytes st) (let e = length-holder st in omega arith) ∙ ap (λ (n : ℕ). holderBytes st ++ drop n s) (length-holder st)
+
+pub rebuilder-front : (s : List ℕ) (st : Rebuilder) → 564 ≤ length s → sets s 0 (rebuilderBytes st) ≡ rebuilderBytes st ++ drop 564 s
+rebuilder-front s st h =
+    sets-front s (rebuilderBytes st) (let e = length-rebuilder st in omega arith) ∙ ap (λ (n : ℕ). rebuilderBytes st ++ drop n s) (length-rebuilder st)
+
+pub holder-stored : (s t u : List ℕ) (st : Holder) → 20 ≤ length s → t ≡ sets s 0 (allBytes (st .opened ∷ st .bits ∷ st .h ∷ st .key ∷ []))
+    → u ≡ sets t 16 (bytesOf (st .answers)) → u ≡ holderBytes st ++ drop 20 s
+unfolding holderBytes allBytes bytesOf
+holder-stored s t u st h e f =
+    store-next s t u 0 16 (allBytes (st .opened ∷ st .bits ∷ st .h ∷ st .key ∷ [])) (bytesOf (st .answers)) e f refl ∙ holder-front s st h
+
+pub fields-stored : (s t u v w : List ℕ) (st : Rebuilder)
+    → t ≡ sets s 0 (allBytes (st .settings .m ∷ st .settings .h ∷ st .settings .k ∷ st .settings .key ∷ []))
+    → u ≡ sets t 16 (allBytes (st .settings .ceiling ∷ st .ybits ∷ st .phase ∷ st .n ∷ []))
+    → v ≡ sets u 32 (allBytes (st .answered ∷ st .counted ∷ st .rows ∷ st .stage ∷ []))
+    → w ≡ sets v 48 (bytesOf (st .waiting))
+    → w ≡ sets s 0 (fieldBytes st)
+unfolding fieldBytes allBytes bytesOf
+fields-stored s t u v w st e f g h =
+    let a : List ℕ = allBytes (st .settings .m ∷ st .settings .h ∷ st .settings .k ∷ st .settings .key ∷ []) in
+    let b : List ℕ = allBytes (st .settings .ceiling ∷ st .ybits ∷ st .phase ∷ st .n ∷ []) in
+    let c : List ℕ = allBytes (st .answered ∷ st .counted ∷ st .rows ∷ st .stage ∷ []) in
+    store-next s v w 0 48 ((a ++ b) ++ c) (bytesOf (st .waiting))
+    (store-next s u v 0 32 (a ++ b) c (store-next s t u 0 16 a b e f refl) g refl)
+    h refl
+
+pub rebuilder-stored : (s t u : List ℕ) (st : Rebuilder) → 564 ≤ length s → t ≡ sets s 0 (fieldBytes st) → u ≡ sets t 52 (piecesBytes (st .pieces) 0 32)
+    → u ≡ rebuilderBytes st ++ drop 564 s
+unfolding rebuilderBytes
+rebuilder-stored s t u st h e f =
+    store-next s t u 0 52 (fieldBytes st) (piecesBytes (st .pieces) 0 32) e f (let l = length-fields st in omega arith) ∙ rebuilder-front s st h
