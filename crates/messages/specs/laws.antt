@@ -1,5 +1,4 @@
 -- Laws of the definitions, for proofs.
-pub mod NumberLaws
 pub mod KindLaws
 pub mod QuestionLaws
 pub mod AnswerLaws

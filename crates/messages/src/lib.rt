@@ -5,9 +5,7 @@ use strings::Refusal;
 
 mod answers;
 mod kinds;
-mod numbers;
 mod questions;
-mod reading;
 mod writing;
 
 pub use answers::read_answer;
@@ -16,12 +14,13 @@ pub use answers::write_hash;
 pub use answers::write_size;
 pub use answers::write_syndrome;
 pub use kinds::read_kind;
+pub use numbers::NumberRead;
+pub use numbers::Reader;
+pub use numbers::read_next;
 pub use numbers::read_number;
+pub use numbers::reader_at;
 pub use questions::read_fields;
 pub use questions::write_question;
-pub use reading::Reader;
-pub use reading::read_next;
-pub use reading::reader_at;
 
 // The kinds of 01, "Messages"; specs/Kinds.antt has their numbers, 0 to 3.
 pub enum Kind {
@@ -29,12 +28,6 @@ pub enum Kind {
     Hash,
     Syndrome,
     Bits,
-}
-
-// What reading a number at a position gave: its value and the position behind it, or why not.
-pub enum NumberRead {
-    Value(u32, usize),
-    NoNumber(Refusal),
 }
 
 // What reading the kind of a question gave: a known kind and the position behind it, or why not.

@@ -20,8 +20,8 @@ use Rattle.codes.specs.Entries.{refusal, value}
 use Rattle.messages.specs.declared.Question.{Question}
 use Rattle.messages.specs.declared.Question.the-variants.{AskOpen, AskHash, AskSyndrome, AskBits}
 use Rattle.messages.specs.laws.QuestionLaws.{keyOf, fields-form}
-use Rattle.messages.specs.Numbers.{number}
-use Rattle.messages.specs.laws.NumberLaws.{size-most}
+use Rattle.numbers.specs.Numbers.{number}
+use Rattle.numbers.specs.laws.NumberLaws.{size-most}
 use Rattle.messages.specs.Answers.{syndromeAnswer, answerBytes}
 use Rattle.messages.specs.laws.AnswerLaws.{answer-size, size-answer-most, hash-answer-most, bits-answer-size}
 use Rattle.protocol.specs.declared.Holder.{Holder}

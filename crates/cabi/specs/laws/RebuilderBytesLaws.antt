@@ -14,8 +14,8 @@ use Rattle.strings.specs.declared.Refusal.{Refusal}
 use Rattle.codes.specs.Entries.{Answer, refusal, value}
 use Rattle.messages.specs.declared.Question.{Question}
 use Rattle.messages.specs.declared.Question.the-variants.{AskOpen, AskHash, AskSyndrome, AskBits}
-use Rattle.messages.specs.Numbers.{number}
-use Rattle.messages.specs.laws.NumberLaws.{size-most}
+use Rattle.numbers.specs.Numbers.{number}
+use Rattle.numbers.specs.laws.NumberLaws.{size-most}
 use Rattle.messages.specs.Kinds.{kindNumber}
 use Rattle.messages.specs.laws.KindLaws.{kind-size}
 use Rattle.messages.specs.Questions.{questionKind, questionBytes}

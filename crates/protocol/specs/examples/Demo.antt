@@ -10,7 +10,7 @@ use Rattle.strings.specs.Refusals.{refusalNumber}
 use Rattle.codes.specs.Syndrome.{syndrome}
 use Rattle.codes.specs.Repair.{insertions, deletions, withSyndrome, putIn, takeOut}
 use Rattle.codes.specs.Hash.{xorLeft, xorRight, step, hashFrom, hash}
-use Rattle.messages.specs.Numbers.{groups, number, nextByte, numberAt}
+use Rattle.numbers.specs.Numbers.{groups, number, nextByte, numberAt}
 use Rattle.messages.specs.Kinds.{kindAt}
 use Rattle.messages.specs.Questions.{questionBytes, openingAt, rangeAt, fieldsAt}
 use Rattle.messages.specs.Answers.{answerBytes, sizeAt, hashAt, syndromeAt, bitsAt, answerFields, readAnswer}

@@ -13,7 +13,7 @@ use borrow.Author.Tests.{eq-eqb, le-leb, lt-ltb, ne-eqb}
 use Rattle.messages.specs.laws.AnswerLaws.{answer-reads}
 use Rattle.messages.specs.Answers.{Answer, answerBytes, answerValue, readAnswer}
 use Rattle.messages.specs.Kinds.{kindAt}
-use Rattle.messages.specs.Numbers.{numberAt}
+use Rattle.numbers.specs.Numbers.{numberAt}
 use Rattle.messages.specs.laws.QuestionLaws.{InRange, question-fields-read, question-kind-reads, question-known, question-reads}
 use Rattle.messages.specs.Questions.{questionBytes, questionKind, readQuestion}
 use Rattle.messages.specs.declared.Question.{Question}

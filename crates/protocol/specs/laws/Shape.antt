@@ -10,8 +10,8 @@ use lib.Dec.{eqb, lit≤}
 use Rattle.codes.specs.Repair.{putIn, takeOut}
 use Rattle.codes.specs.laws.RepairLaws.{put-in-length, take-out-length}
 use Rattle.messages.specs.Answers.{Answer, answerBytes, bitsAnswer, hashAnswer, sizeAnswer, syndromeAnswer}
-use Rattle.messages.specs.laws.NumberLaws.{size-last, size-most, size-short}
-use Rattle.messages.specs.Numbers.{number}
+use Rattle.numbers.specs.laws.NumberLaws.{size-last, size-most, size-short}
+use Rattle.numbers.specs.Numbers.{number}
 use Rattle.messages.specs.declared.Question.{Question}
 use Rattle.messages.specs.declared.Question.the-variants.{AskBits, AskHash, AskOpen, AskSyndrome}
 use Rattle.protocol.specs.Anchors.{place}

@@ -24,7 +24,7 @@ use Rattle.messages.specs.declared.Question.{Question}
 use Rattle.messages.specs.declared.Question.the-variants.{AskHash, AskSyndrome, AskBits}
 use Rattle.messages.specs.declared.WriteResult.{WriteResult}
 use Rattle.messages.specs.declared.WriteResult.the-variants.{Written, TooShort}
-use Rattle.messages.specs.Numbers.{number}
+use Rattle.numbers.specs.Numbers.{number}
 use Rattle.messages.specs.Kinds.{kindNumber}
 use Rattle.messages.specs.laws.KindLaws.{kind-size}
 use Rattle.messages.specs.Questions.{questionBytes, questionKind}

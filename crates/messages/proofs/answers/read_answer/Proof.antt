@@ -1,5 +1,5 @@
 use mathlib.Core.Path.{sym, _∙_}
-use Rattle.messages.specs.laws.NumberLaws.{number-inside}
+use Rattle.numbers.specs.laws.NumberLaws.{number-inside}
 use Rattle.messages.specs.laws.AnswerLaws.{answer-none, answer-other, answer-size-at, answer-hash-at, answer-syndrome-at, answer-bits-at}
 use borrow.Author.Needs.{needs}
 use Rattle.messages.proofs.answers.read_answer.Statement.{statement}

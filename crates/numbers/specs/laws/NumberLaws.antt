@@ -15,9 +15,9 @@ use Rattle.strings.specs.laws.PackLaws.{Bytes}
 use Rattle.strings.specs.laws.Tests.{by-test}
 use Rattle.strings.specs.declared.Refusal.{Refusal}
 use Rattle.strings.specs.declared.Refusal.the-variants.{CutShort, BadNumber}
-use Rattle.messages.specs.declared.NumberRead.{NumberRead}
-use Rattle.messages.specs.declared.NumberRead.the-variants.{Value, NoNumber}
-use Rattle.messages.specs.Numbers.{groups, number, nextByte, numberAt}
+use Rattle.numbers.specs.declared.NumberRead.{NumberRead}
+use Rattle.numbers.specs.declared.NumberRead.the-variants.{Value, NoNumber}
+use Rattle.numbers.specs.Numbers.{groups, number, nextByte, numberAt}
 
 -- ---- a number's bytes, from the first on
 abbrev lim : ℕ → ℕ

@@ -3,11 +3,11 @@ use mathlib.Core.Path.{_≡_, refl, sym, ap, _∙_}
 use Prim.Native.Nat.{ℕ, _+_, _-_, _*_, _≤_, _<_}
 use native.Mathlib.Omega.{arith}
 use lib.ListN.{length}
-use Rattle.messages.specs.Numbers.{nextByte, numberAt}
-use Rattle.messages.specs.laws.NumberLaws.{weight, weight-most, read-first, turn-fits, read-cut, read-zero, read-last, read-next, read-none, read-short, read-end}
-use Rattle.messages.specs.declared.NumberRead.the-variants.{Value}
-use Rattle.messages.proofs.numbers.read_number.Statement.{statement}
-use Rattle.messages.proofs.numbers.read_number.Tie as tie
+use Rattle.numbers.specs.Numbers.{nextByte, numberAt}
+use Rattle.numbers.specs.laws.NumberLaws.{weight, weight-most, read-first, turn-fits, read-cut, read-zero, read-last, read-next, read-none, read-short, read-end}
+use Rattle.numbers.specs.declared.NumberRead.the-variants.{Value}
+use Rattle.numbers.proofs.read_number.Statement.{statement}
+use Rattle.numbers.proofs.read_number.Tie as tie
 
 abbrev Inv-loop : tie.InvT-loop
 Inv-loop s at first v₀ w₀ i₀ k₀ v w i k = (i ≤ length s) × (k ≤ 3) × (w ≡ weight k) × (v < w) × (nextByte k s i w v ≡ numberAt s at)

@@ -4,10 +4,10 @@ use Prim.Native.Nat.{_+_, _%_, _<_}
 use native.Mathlib.Omega.{arith}
 use lib.ListN.{length, length-set}
 use lib.Seq.{sets}
-use Rattle.messages.specs.Numbers.{number}
-use Rattle.messages.specs.laws.NumberLaws.{size-last, size-next, size-some, write-turn, write-last}
-use Rattle.messages.proofs.numbers.put_number.Statement.{statement}
-use Rattle.messages.proofs.numbers.put_number.Tie as tie
+use Rattle.numbers.specs.Numbers.{number}
+use Rattle.numbers.specs.laws.NumberLaws.{size-last, size-next, size-some, write-turn, write-last}
+use Rattle.numbers.proofs.put_number.Statement.{statement}
+use Rattle.numbers.proofs.put_number.Tie as tie
 
 abbrev Inv-loop : tie.InvT-loop
 Inv-loop buf₀ at v i₀ w₀ buf i w = (length buf ≡ length buf₀) × (i + length (number w) ≡ at + length (number v)) × (w < 4294967296) × (sets buf i (number w) ≡ sets buf₀ at (number v))

@@ -1,8 +1,8 @@
 use borrow.Author.Needs.{needs}
 use mathlib.Core.Path.{sym}
-use Rattle.messages.specs.laws.NumberLaws.{size-last, size-two, size-three, size-four, size-five}
-use Rattle.messages.proofs.numbers.number_size.Statement.{statement}
-use Rattle.messages.proofs.numbers.number_size.Tie as tie
+use Rattle.numbers.specs.laws.NumberLaws.{size-last, size-two, size-three, size-four, size-five}
+use Rattle.numbers.proofs.number_size.Statement.{statement}
+use Rattle.numbers.proofs.number_size.Tie as tie
 
 returns : tie.Need-returns
 returns c = sym (size-last _ (search needs))

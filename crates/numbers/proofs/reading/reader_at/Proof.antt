@@ -1,4 +1,4 @@
--- `messages::reading::reader_at` meets its contract: a walk of its MIR, by hand. A `Reader` is made, in the result's local, of the slice and the position passed.
+-- `numbers::reading::reader_at` meets its contract: a walk of its MIR, by hand. A `Reader` is made, in the result's local, of the slice and the position passed.
 -- A `&[u8]` is Copy, so what it owns is had twice: once for src at exit, and once inside the result, beside the facts of the position.
 use mathlib.Core.Path.{refl}
 use Prim.Native.Nat.{ℕ, _<_, _^_}
@@ -33,13 +33,13 @@ use denote.Triple.Spec.{Meets, tripleOf}
 use denote.Triple.Table.{entered}
 use denote.Triple.Walked.{says, Stays, stay-none, stay-none-slice, walkOf, goes-none, goes-none-slice, Walks, ends-at, walked, walk-meets}
 use denote.Exit.{yes}
-use Rattle.messages.specs.declared.reading.Reader.{Reader}
-use Rattle.messages.proofs.reading.Reader as T
-use Rattle.messages.proofs.reading.Reader.Laws as T′
-use Rattle.messages.proofs.reading.reader_at.Key.{name as #messages·reading·reader-at}
-use Rattle.messages.proofs.reading.reader_at as reader-at
-use Rattle.messages.proofs.reading.reader_at.Statement as stated
-use Rattle.messages.proofs.reading.reader_at.Code as code
+use Rattle.numbers.specs.declared.reading.Reader.{Reader}
+use Rattle.numbers.proofs.reading.Reader as T
+use Rattle.numbers.proofs.reading.Reader.Laws as T′
+use Rattle.numbers.proofs.reading.reader_at.Key.{name as #numbers·reading·reader-at}
+use Rattle.numbers.proofs.reading.reader_at as reader-at
+use Rattle.numbers.proofs.reading.reader_at.Statement as stated
+use Rattle.numbers.proofs.reading.reader_at.Code as code
 
 abbrev stayed : Stays (reader-at.ended .signature .params) (reader-at.ended .kept)
 stayed = (stay-none-slice (0 ∷ []) tt (plain (λ _. u8)) yes, (stay-none (λ _. usize) yes, tt))
@@ -98,5 +98,5 @@ pub reader-at-spec : {M : Type 1} → stated.statement M
 unfolding code.routine tablesOf
 reader-at-spec 𝓤 H 𝓜 𝓖 𝓡 =
     entered 𝓤 H (tripleOf 𝓤 H (𝓖 .A) reader-at.signature (reader-at.spec 𝓤 H (𝓖 .A) (𝓜 .mem) (𝓡 .run)))
-    (tables 𝓤 H 𝓜 𝓡 code.env .C) (tables 𝓤 H 𝓜 𝓡 code.env .Λ) #messages·reading·reader-at code.function (code.unfolded 𝓤 H 𝓜 𝓡)
+    (tables 𝓤 H 𝓜 𝓡 code.env .C) (tables 𝓤 H 𝓜 𝓡 code.env .Λ) #numbers·reading·reader-at code.function (code.unfolded 𝓤 H 𝓜 𝓡)
     (reader-at-meets 𝓤 H (𝓖 .A) (givenOf 𝓤 H 𝓜 𝓖) (𝓜 .mem) (𝓡 .run) (tablesOf 𝓤 H 𝓜 (tables 𝓤 H 𝓜 𝓡 code.env)))

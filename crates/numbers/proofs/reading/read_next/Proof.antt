@@ -1,4 +1,4 @@
--- `messages::reading::read_next` meets its contract: a walk of its MIR, by hand. The struct is taken apart, and `read_number` is called on the slice and the position. All that the proof knows of `read_number` is that it meets its contract.
+-- `numbers::reading::read_next` meets its contract: a walk of its MIR, by hand. The struct is taken apart, and `read_number` is called on the slice and the position. All that the proof knows of `read_number` is that it meets its contract.
 -- The struct is Copy: what it owns is had twice. One copy is kept whole for the exit; the fields of the other are, in their order, what `read_number` asks, beside the lifetime's token, which comes back.
 use mathlib.Core.Path.{_≡_, refl}
 use mathlib.Core.List.{[], _∷_}
@@ -39,21 +39,21 @@ use denote.Triple.Table.{entered, cited}
 use denote.Triple.Walked.{says, Stays, stay-none, walkOf, goes-none, Walks, ends-at, walked, walk-meets}
 use denote.Exit.{yes}
 use denote.Triple.Clauses.{ensured, lasts}
-use Rattle.messages.specs.Numbers.{numberAt}
-use Rattle.messages.specs.declared.reading.Reader.{Reader}
-use Rattle.messages.specs.declared.NumberRead.{NumberRead}
-use Rattle.messages.proofs.reading.Reader as T
-use Rattle.messages.proofs.reading.Reader.Laws as T′
-use Rattle.messages.proofs.NumberRead as S
-use Rattle.messages.proofs.NumberRead.Laws as S′
-use Rattle.messages.proofs.numbers.read_number as read-number
-use Rattle.messages.proofs.numbers.read_number.Symbol as read-number-def
-use Rattle.messages.proofs.numbers.read_number.Symbol.{name as #messages·read-number}
-use Rattle.messages.proofs.numbers.read_number.Met as read-number-thm
-use Rattle.messages.proofs.reading.read_next.Key.{name as #messages·reading·read-next}
-use Rattle.messages.proofs.reading.read_next as read-next
-use Rattle.messages.proofs.reading.read_next.Statement as stated
-use Rattle.messages.proofs.reading.read_next.Code as code
+use Rattle.numbers.specs.Numbers.{numberAt}
+use Rattle.numbers.specs.declared.reading.Reader.{Reader}
+use Rattle.numbers.specs.declared.NumberRead.{NumberRead}
+use Rattle.numbers.proofs.reading.Reader as T
+use Rattle.numbers.proofs.reading.Reader.Laws as T′
+use Rattle.numbers.proofs.NumberRead as S
+use Rattle.numbers.proofs.NumberRead.Laws as S′
+use Rattle.numbers.proofs.read_number as read-number
+use Rattle.numbers.proofs.read_number.Symbol as read-number-def
+use Rattle.numbers.proofs.read_number.Symbol.{name as #numbers·read-number}
+use Rattle.numbers.proofs.read_number.Met as read-number-thm
+use Rattle.numbers.proofs.reading.read_next.Key.{name as #numbers·reading·read-next}
+use Rattle.numbers.proofs.reading.read_next as read-next
+use Rattle.numbers.proofs.reading.read_next.Statement as stated
+use Rattle.numbers.proofs.reading.read_next.Code as code
 
 -- the struct's type, its description and its laws, over the signature's lifetimes
 abbrev B : Lfts 1 → RattleType
@@ -115,7 +115,7 @@ module _ {M : Type 1} (𝓤 : URA M) (H : Heap 𝓤) (A : Atoms 𝓤) (W : Given
       suffices ! _ (ends-at 𝓤 H A read-next.ended stayed (read-next.clauses 𝓤 H A mem run) W (((κ, tt), (q, tt), tt, (d, tt), (mach ∷ [], tt)), tt) u r (tt, tt) (tt, tt)) $ says ! e $
       move ! (1 ∷ []) $ frame ! $ nothing ! $ move ! (2 ∷ 0 ∷ []) $ fjoin ! $ frame ! $ done !
 
-  module _ (C : Calls 𝓤 H) (Λ : Loops 𝓤 H) (fm : FmC 𝓤 H (W .laws) C) (known : Triple 𝓤 (C #messages·read-number) (ReadNumber 𝓤 H A mem run)) where
+  module _ (C : Calls 𝓤 H) (Λ : Loops 𝓤 H) (fm : FmC 𝓤 H (W .laws) C) (known : Triple 𝓤 (C #numbers·read-number) (ReadNumber 𝓤 H A mem run)) where
     walk : Holds (hasTy (T′.mir (named 0)) mach) × WT mach → ent 𝓤 (onEntry 𝓤 H A read-next.signature (κ, tt) (q, tt) (d, tt) (mach ∷ [], tt)) (WpFn 𝓤 H C Λ code.function (mach ∷ []) Post)
     walk wt =
         qed W (raw (onEntry 𝓤 H A read-next.signature (κ, tt) (q, tt) (d, tt) (mach ∷ [], tt)) ∷ []) ∵ enter ! C Λ code.function (mach ∷ []) _ $
@@ -134,13 +134,13 @@ module _ {M : Type 1} (𝓤 : URA M) (H : Heap 𝓤) (A : Atoms 𝓤) (W : Given
         move ! (9 ∷ 10 ∷ []) $ free1 ! $ move ! (7 ∷ 8 ∷ []) $ free1 ! $ move ! (5 ∷ 6 ∷ []) $ free1 ! $ move ! (3 ∷ 4 ∷ []) $ free1 ! $ free0 ! $ by ! (exits r u e)))))))))
 
 module _ {M : Type 1} (𝓤 : URA M) (H : Heap 𝓤) (A : Atoms 𝓤) (W : Given 𝓤 H A) (mem : Memory → SProp 𝓤) (run : Routine → Fun 𝓤) where
-  read-next-walks : (C : Calls 𝓤 H) (Λ : Loops 𝓤 H) → FmC 𝓤 H (W .laws) C → Triple 𝓤 (C #messages·read-number) (ReadNumber 𝓤 H A mem run)
+  read-next-walks : (C : Calls 𝓤 H) (Λ : Loops 𝓤 H) → FmC 𝓤 H (W .laws) C → Triple 𝓤 (C #numbers·read-number) (ReadNumber 𝓤 H A mem run)
       → Walks 𝓤 H A read-next.ended stayed (WpFn 𝓤 H C Λ code.function) (read-next.clauses 𝓤 H A mem run)
   read-next-walks C Λ fm known = walked 𝓤 H A read-next.ended stayed (read-next.clauses 𝓤 H A mem run) (WpFn 𝓤 H C Λ code.function) (λ κs. (LL.vals (D κs) (L κs), tt)) (λ κs. (LL.tells (D κs) (L κs), tt))
       (λ κs qs bounds a g are. via 𝓤 _ (fst∗ 𝓤 _ (emp 𝓤)) (walk 𝓤 H A W mem run (κs .0) (qs .0) (a .0) C Λ fm known (LL.lawful (D κs) (L κs) 𝓤 H A W .typed (a .0) _ (are .0) .0)))
 
 read-next-meets : {M : Type 1} (𝓤 : URA M) (H : Heap 𝓤) (A : Atoms 𝓤) (W : Given 𝓤 H A) (mem : Memory → SProp 𝓤) (run : Routine → Fun 𝓤) (𝓣 : Tables 𝓤 H)
-    → Triple 𝓤 (𝓣 .C #messages·read-number) (ReadNumber 𝓤 H A mem run)
+    → Triple 𝓤 (𝓣 .C #numbers·read-number) (ReadNumber 𝓤 H A mem run)
     → Meets 𝓤 H A read-next.signature (WpFn 𝓤 H (𝓣 .C) (𝓣 .Λ) code.function) (read-next.spec 𝓤 H A mem run)
 read-next-meets 𝓤 H A W mem run 𝓣 known = walk-meets 𝓤 H A read-next.ended stayed W (goes-none 𝓤 H A W 1 B yes (λ κs x f. refl), tt) (read-next.clauses 𝓤 H A mem run) (WpFn 𝓤 H (𝓣 .C) (𝓣 .Λ) code.function) (WpFn-mono 𝓤 H (W .laws) 𝓣 code.function)
     (read-next-walks 𝓤 H A W mem run (𝓣 .C) (𝓣 .Λ) (fmOf 𝓤 H (W .laws) 𝓣) known)
@@ -149,6 +149,6 @@ pub read-next-spec : {M : Type 1} → stated.statement M
 unfolding code.routine tablesOf
 read-next-spec 𝓤 H 𝓜 𝓖 𝓡 =
     entered 𝓤 H (tripleOf 𝓤 H (𝓖 .A) read-next.signature (read-next.spec 𝓤 H (𝓖 .A) (𝓜 .mem) (𝓡 .run)))
-    (tables 𝓤 H 𝓜 𝓡 code.env .C) (tables 𝓤 H 𝓜 𝓡 code.env .Λ) #messages·reading·read-next code.function (code.unfolded 𝓤 H 𝓜 𝓡)
+    (tables 𝓤 H 𝓜 𝓡 code.env .C) (tables 𝓤 H 𝓜 𝓡 code.env .Λ) #numbers·reading·read-next code.function (code.unfolded 𝓤 H 𝓜 𝓡)
     (read-next-meets 𝓤 H (𝓖 .A) (givenOf 𝓤 H 𝓜 𝓖) (𝓜 .mem) (𝓡 .run) (tablesOf 𝓤 H 𝓜 (tables 𝓤 H 𝓜 𝓡 code.env))
-    (cited 𝓤 H (ReadNumber 𝓤 H (𝓖 .A) (𝓜 .mem) (𝓡 .run)) 𝓜 𝓡 code.env #messages·read-number read-number-def.routine code.calls-messages·numbers·read-number (read-number-thm.met 𝓤 H 𝓜 𝓖 𝓡)))
+    (cited 𝓤 H (ReadNumber 𝓤 H (𝓖 .A) (𝓜 .mem) (𝓡 .run)) 𝓜 𝓡 code.env #numbers·read-number read-number-def.routine code.calls-numbers·read-number (read-number-thm.met 𝓤 H 𝓜 𝓖 𝓡)))

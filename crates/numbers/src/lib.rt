@@ -1,11 +1,24 @@
-// Numbers as bytes: groups of seven bits, the lowest first.
+// Numbers of messages: written and read as groups of seven bits, the lowest first; and the reader through which both ends read. The part
+// of the third layer that questions and answers share.
 ghost use mathlib.Core.Path.{_≡_};
 ghost use Prim.Native.Nat.{_+_, _≤_, _<_};
 ghost use lib.ListN.{length};
 ghost use lib.Seq.{sets};
-ghost use Rattle.messages.specs.Numbers.{number, nextByte, numberAt};
-use crate::NumberRead;
+ghost use Rattle.numbers.specs.Numbers.{number, nextByte, numberAt};
 use strings::Refusal;
+
+mod reading;
+
+pub use reading::Reader;
+pub use reading::next_number;
+pub use reading::read_next;
+pub use reading::reader_at;
+
+// What reading a number at a position gave: its value and the position behind it, or why not.
+pub enum NumberRead {
+    Value(u32, usize),
+    NoNumber(Refusal),
+}
 
 fn wide(x: u8) -> u32
     ensures { λ r. ⌜ r ≡ x ⌝ }

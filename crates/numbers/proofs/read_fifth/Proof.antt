@@ -1,11 +1,11 @@
 use mathlib.Core.Path.{sym, ap, _∙_}
 use Prim.Native.Nat.{ℕ, _+_, _*_}
 use native.Mathlib.Omega.{arith}
-use Rattle.messages.specs.laws.NumberLaws.{read-cut, read-zero, read-fifth, read-fifth-large}
-use Rattle.messages.specs.declared.NumberRead.the-variants.{Value}
+use Rattle.numbers.specs.laws.NumberLaws.{read-cut, read-zero, read-fifth, read-fifth-large}
+use Rattle.numbers.specs.declared.NumberRead.the-variants.{Value}
 use borrow.Author.Needs.{needs}
-use Rattle.messages.proofs.numbers.read_fifth.Statement.{statement}
-use Rattle.messages.proofs.numbers.read_fifth.Tie as tie
+use Rattle.numbers.proofs.read_fifth.Statement.{statement}
+use Rattle.numbers.proofs.read_fifth.Tie as tie
 
 returns : tie.Need-returns
 returns c = sym (read-cut _ 0 _ _ _ (c .if1 .taken))

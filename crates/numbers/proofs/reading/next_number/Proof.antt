@@ -1,4 +1,4 @@
--- `messages::reading::next_number` meets its contract: a walk of its MIR, by hand. The `Reader` that `reader_at` returns is held in a local and passed to `read_next`. All that the proof knows of the two is that each meets its contract.
+-- `numbers::reading::next_number` meets its contract: a walk of its MIR, by hand. The `Reader` that `reader_at` returns is held in a local and passed to `read_next`. All that the proof knows of the two is that each meets its contract.
 -- The machine value that `reader_at` returns is stored and passed on as it is. In a local of a body MIR erases the lifetime of the struct's type, so the value is shown to have the type at `erased`: what the struct owns does not say the lifetime's name.
 use mathlib.Core.Path.{_≡_, refl, ap, _∙_}
 use Prim.Native.Nat.{ℕ, _<_, _^_}
@@ -37,25 +37,25 @@ use denote.Triple.Table.{entered, cited}
 use denote.Triple.Walked.{says, Stays, stay-none, stay-none-slice, walkOf, goes-none, goes-none-slice, Walks, ends-at, walked, walk-meets}
 use denote.Exit.{yes}
 use denote.Triple.Clauses.{ensured, lasts}
-use Rattle.messages.specs.Numbers.{numberAt}
-use Rattle.messages.specs.declared.reading.Reader.{Reader}
-use Rattle.messages.specs.declared.NumberRead.{NumberRead}
-use Rattle.messages.proofs.reading.Reader as T
-use Rattle.messages.proofs.reading.Reader.Laws as T′
-use Rattle.messages.proofs.NumberRead as S
-use Rattle.messages.proofs.NumberRead.Laws as S′
-use Rattle.messages.proofs.reading.reader_at as reader-at
-use Rattle.messages.proofs.reading.reader_at.Symbol as reader-at-def
-use Rattle.messages.proofs.reading.reader_at.Symbol.{name as #messages·reading·reader-at}
-use Rattle.messages.proofs.reading.reader_at.Met as reader-at-thm
-use Rattle.messages.proofs.reading.read_next as read-next
-use Rattle.messages.proofs.reading.read_next.Symbol as read-next-def
-use Rattle.messages.proofs.reading.read_next.Symbol.{name as #messages·reading·read-next}
-use Rattle.messages.proofs.reading.read_next.Met as read-next-thm
-use Rattle.messages.proofs.reading.next_number.Key.{name as #messages·next-number}
-use Rattle.messages.proofs.reading.next_number as next-number
-use Rattle.messages.proofs.reading.next_number.Statement as stated
-use Rattle.messages.proofs.reading.next_number.Code as code
+use Rattle.numbers.specs.Numbers.{numberAt}
+use Rattle.numbers.specs.declared.reading.Reader.{Reader}
+use Rattle.numbers.specs.declared.NumberRead.{NumberRead}
+use Rattle.numbers.proofs.reading.Reader as T
+use Rattle.numbers.proofs.reading.Reader.Laws as T′
+use Rattle.numbers.proofs.NumberRead as S
+use Rattle.numbers.proofs.NumberRead.Laws as S′
+use Rattle.numbers.proofs.reading.reader_at as reader-at
+use Rattle.numbers.proofs.reading.reader_at.Symbol as reader-at-def
+use Rattle.numbers.proofs.reading.reader_at.Symbol.{name as #numbers·reading·reader-at}
+use Rattle.numbers.proofs.reading.reader_at.Met as reader-at-thm
+use Rattle.numbers.proofs.reading.read_next as read-next
+use Rattle.numbers.proofs.reading.read_next.Symbol as read-next-def
+use Rattle.numbers.proofs.reading.read_next.Symbol.{name as #numbers·reading·read-next}
+use Rattle.numbers.proofs.reading.read_next.Met as read-next-thm
+use Rattle.numbers.proofs.reading.next_number.Key.{name as #numbers·next-number}
+use Rattle.numbers.proofs.reading.next_number as next-number
+use Rattle.numbers.proofs.reading.next_number.Statement as stated
+use Rattle.numbers.proofs.reading.next_number.Code as code
 
 -- the struct's type, over the signature's lifetimes
 abbrev B : Lfts 1 → RattleType
@@ -127,7 +127,7 @@ module _ {M : Type 1} (𝓤 : URA M) (H : Heap 𝓤) (A : Atoms 𝓤) (W : Given
       -- [the token; the result; what s owns]: what the position owns is made anew, and with what s owns it is what the parameters own
       move ! (1 ∷ []) $ frame ! $ nothing ! $ owned ! usize (Is usize) (uint-makes 𝓤 H A W w64) n _ (refl, ok) $ fjoin ! $ move ! (2 ∷ 0 ∷ []) $ fjoin ! $ frame ! $ done !
 
-  module _ (C : Calls 𝓤 H) (Λ : Loops 𝓤 H) (fm : FmC 𝓤 H (W .laws) C) (known-at : Triple 𝓤 (C #messages·reading·reader-at) (ReaderAt 𝓤 H A mem run)) (known-next : Triple 𝓤 (C #messages·reading·read-next) (ReadNext 𝓤 H A mem run)) where
+  module _ (C : Calls 𝓤 H) (Λ : Loops 𝓤 H) (fm : FmC 𝓤 H (W .laws) C) (known-at : Triple 𝓤 (C #numbers·reading·reader-at) (ReaderAt 𝓤 H A mem run)) (known-next : Triple 𝓤 (C #numbers·reading·read-next) (ReadNext 𝓤 H A mem run)) where
     walk : Is (ShrSlice (named 0) κ u8) s (v ∷ []) → ent 𝓤 (onEntry 𝓤 H A next-number.signature (κ, tt) (q, tt) (s, (n, tt)) at) (WpFn 𝓤 H C Λ code.function (v ∷ vint w64 n ∷ []) Post)
     walk p =
         qed W (raw (onEntry 𝓤 H A next-number.signature (κ, tt) (q, tt) (s, (n, tt)) at) ∷ []) ∵ enter ! C Λ code.function (v ∷ vint w64 n ∷ []) _ $
@@ -153,13 +153,13 @@ module _ {M : Type 1} (𝓤 : URA M) (H : Heap 𝓤) (A : Atoms 𝓤) (W : Given
         by ! (exits t u′ (e′ ∙ (ap (λ (x : RefT (List ℕ)). numberAt (now x) (r .at)) (e .0) ∙ ap (numberAt (now s)) (e .1))))))))))))))))
 
 module _ {M : Type 1} (𝓤 : URA M) (H : Heap 𝓤) (A : Atoms 𝓤) (W : Given 𝓤 H A) (mem : Memory → SProp 𝓤) (run : Routine → Fun 𝓤) where
-  next-number-walks : (C : Calls 𝓤 H) (Λ : Loops 𝓤 H) → FmC 𝓤 H (W .laws) C → Triple 𝓤 (C #messages·reading·reader-at) (ReaderAt 𝓤 H A mem run) → Triple 𝓤 (C #messages·reading·read-next) (ReadNext 𝓤 H A mem run)
+  next-number-walks : (C : Calls 𝓤 H) (Λ : Loops 𝓤 H) → FmC 𝓤 H (W .laws) C → Triple 𝓤 (C #numbers·reading·reader-at) (ReaderAt 𝓤 H A mem run) → Triple 𝓤 (C #numbers·reading·read-next) (ReadNext 𝓤 H A mem run)
       → Walks 𝓤 H A next-number.ended stayed (WpFn 𝓤 H C Λ code.function) (next-number.clauses 𝓤 H A mem run)
   next-number-walks C Λ fm known-at known-next = walked 𝓤 H A next-number.ended stayed (next-number.clauses 𝓤 H A mem run) (WpFn 𝓤 H C Λ code.function) (λ κs. (slice-vals, (uint-vals w64, tt))) (λ κs. (shr-slice-tells (named 0) (κs .0) u8, (uint-tells w64, tt)))
       (λ κs qs bounds a g are. via 𝓤 _ (fst∗ 𝓤 _ (emp 𝓤)) (walk 𝓤 H A W mem run (κs .0) (qs .0) (a .0) (a .1 .0) (are .1 .0 .1) C Λ fm known-at known-next (are .0)))
 
 next-number-meets : {M : Type 1} (𝓤 : URA M) (H : Heap 𝓤) (A : Atoms 𝓤) (W : Given 𝓤 H A) (mem : Memory → SProp 𝓤) (run : Routine → Fun 𝓤) (𝓣 : Tables 𝓤 H)
-    → Triple 𝓤 (𝓣 .C #messages·reading·reader-at) (ReaderAt 𝓤 H A mem run) → Triple 𝓤 (𝓣 .C #messages·reading·read-next) (ReadNext 𝓤 H A mem run)
+    → Triple 𝓤 (𝓣 .C #numbers·reading·reader-at) (ReaderAt 𝓤 H A mem run) → Triple 𝓤 (𝓣 .C #numbers·reading·read-next) (ReadNext 𝓤 H A mem run)
     → Meets 𝓤 H A next-number.signature (WpFn 𝓤 H (𝓣 .C) (𝓣 .Λ) code.function) (next-number.spec 𝓤 H A mem run)
 next-number-meets 𝓤 H A W mem run 𝓣 known-at known-next = walk-meets 𝓤 H A next-number.ended stayed W (goes-none-slice 𝓤 H A W 1 (0 ∷ []) tt (plain (λ _. u8)) yes, (goes-none 𝓤 H A W 1 (λ _. usize) yes (λ κs x f. refl), tt)) (next-number.clauses 𝓤 H A mem run) (WpFn 𝓤 H (𝓣 .C) (𝓣 .Λ) code.function) (WpFn-mono 𝓤 H (W .laws) 𝓣 code.function)
     (next-number-walks 𝓤 H A W mem run (𝓣 .C) (𝓣 .Λ) (fmOf 𝓤 H (W .laws) 𝓣) known-at known-next)
@@ -168,7 +168,7 @@ pub next-number-spec : {M : Type 1} → stated.statement M
 unfolding code.routine tablesOf
 next-number-spec 𝓤 H 𝓜 𝓖 𝓡 =
     entered 𝓤 H (tripleOf 𝓤 H (𝓖 .A) next-number.signature (next-number.spec 𝓤 H (𝓖 .A) (𝓜 .mem) (𝓡 .run)))
-    (tables 𝓤 H 𝓜 𝓡 code.env .C) (tables 𝓤 H 𝓜 𝓡 code.env .Λ) #messages·next-number code.function (code.unfolded 𝓤 H 𝓜 𝓡)
+    (tables 𝓤 H 𝓜 𝓡 code.env .C) (tables 𝓤 H 𝓜 𝓡 code.env .Λ) #numbers·next-number code.function (code.unfolded 𝓤 H 𝓜 𝓡)
     (next-number-meets 𝓤 H (𝓖 .A) (givenOf 𝓤 H 𝓜 𝓖) (𝓜 .mem) (𝓡 .run) (tablesOf 𝓤 H 𝓜 (tables 𝓤 H 𝓜 𝓡 code.env))
-    (cited 𝓤 H (ReaderAt 𝓤 H (𝓖 .A) (𝓜 .mem) (𝓡 .run)) 𝓜 𝓡 code.env #messages·reading·reader-at reader-at-def.routine code.calls-messages·reading·reader-at (reader-at-thm.met 𝓤 H 𝓜 𝓖 𝓡))
-    (cited 𝓤 H (ReadNext 𝓤 H (𝓖 .A) (𝓜 .mem) (𝓡 .run)) 𝓜 𝓡 code.env #messages·reading·read-next read-next-def.routine code.calls-messages·reading·read-next (read-next-thm.met 𝓤 H 𝓜 𝓖 𝓡)))
+    (cited 𝓤 H (ReaderAt 𝓤 H (𝓖 .A) (𝓜 .mem) (𝓡 .run)) 𝓜 𝓡 code.env #numbers·reading·reader-at reader-at-def.routine code.calls-numbers·reading·reader-at (reader-at-thm.met 𝓤 H 𝓜 𝓖 𝓡))
+    (cited 𝓤 H (ReadNext 𝓤 H (𝓖 .A) (𝓜 .mem) (𝓡 .run)) 𝓜 𝓡 code.env #numbers·reading·read-next read-next-def.routine code.calls-numbers·reading·read-next (read-next-thm.met 𝓤 H 𝓜 𝓖 𝓡)))

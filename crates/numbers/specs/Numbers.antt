@@ -5,8 +5,8 @@ use Prim.Native.Nat.{ℕ, zero, suc, _+_, _-_, _*_, _/_, _%_}
 use lib.ListN.{length, getD}
 use lib.Dec.{ltb, leb, eqb}
 use Rattle.strings.specs.declared.Refusal.the-variants.{CutShort, BadNumber}
-use Rattle.messages.specs.declared.NumberRead.{NumberRead}
-use Rattle.messages.specs.declared.NumberRead.the-variants.{Value, NoNumber}
+use Rattle.numbers.specs.declared.NumberRead.{NumberRead}
+use Rattle.numbers.specs.declared.NumberRead.the-variants.{Value, NoNumber}
 
 -- the bytes of v in at most k + 1 groups
 unfoldable pub groups : ℕ → ℕ → List ℕ

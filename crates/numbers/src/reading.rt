@@ -1,9 +1,9 @@
 // The reader of 01, "Both ends read through one reader that holds a message and how far it has got". It only holds the two; the work
 // is done by `read_number`, on a slice and a position. `next_number` makes a reader for each number and reads through it.
 ghost use mathlib.Core.Path.{_≡_};
-ghost use Rattle.messages.specs.Numbers.{numberAt};
+ghost use Rattle.numbers.specs.Numbers.{numberAt};
 use crate::NumberRead;
-use crate::numbers::read_number;
+use crate::read_number;
 
 // A reader: `src` is the message, `at` is how far it has got, as the index of the first byte that is not read yet.
 pub struct Reader<'a> {

@@ -1,0 +1,2 @@
+-- Laws of the definitions, for proofs.
+pub mod NumberLaws
