@@ -1,16 +1,18 @@
 -- What demand 3 claims of pieces, bits and rows; Worlds has the claim itself.
 use mathlib.Core.Path.{_≡_}
 use mathlib.Core.Bool.{Bool, false, cond, _&&_}
-use mathlib.Core.List.{List, [], _∷_}
+use mathlib.Core.List.{List, [], _∷_, _++_}
 use mathlib.Core.Logic.{_⊎_}
-use Prim.Native.Nat.{ℕ, _+_, _≤_, _<_}
-use lib.ListN.{length, getD}
+use Prim.Native.Nat.{ℕ, _+_, _-_, _≤_, _<_}
+use lib.ListN.{length, getD, drop, replicate}
 use lib.Dec.{ltb, leb}
 use Rattle.codes.specs.Repair.{Deletion}
 use Rattle.codes.specs.Syndrome.{syndrome}
 use Rattle.protocol.specs.Segments.{Segment, dropped, settled, span, waiting, hashOf}
 use Rattle.protocol.specs.Anchors.{part}
-use Rattle.protocol.specs.Runs.{Run, piecesOf, sheetOf, string}
+use Rattle.protocol.specs.Runs.{Run, opening, working, whole, run, piecesOf, sheetOf, string}
+use Rattle.protocol.specs.RebuilderCall.{noRow}
+use Rattle.messages.specs.Answers.{Answer}
 use Rattle.protocol.specs.declared.Row.{Row}
 use Rattle.protocol.specs.declared.Settings.{Settings}
 use Rattle.protocol.specs.declared.How.{How}
@@ -77,3 +79,19 @@ pub record Finished (S : Settings) (X : List Bool) (s : Run) : Type 0 where
   pub size : length (string (piecesOf s)) ≡ length X
   pub bits : (i : ℕ) → i < length X → (getD (string (piecesOf s)) i false ≡ getD X i false) ⊎ Slip S X 0 (piecesOf s) i
   pub rows : (i : ℕ) → i < length X → rowSum (covers i) (sheetOf s) ≡ 1
+
+-- ---- the lent sheet
+-- a lent sheet with the rows l at its front, z rows of zeros behind them, and then what it had
+abbrev pub rowsAtFront : List Row → (z : ℕ) → List Row → List Row
+rowsAtFront l z sheet = l ++ (replicate z noRow ++ drop (length l + z) sheet)
+
+-- how many used rows the next answer sets to zeros: those behind the first, if it is the whole string's
+abbrev pub zeroedNext : Run → ℕ
+zeroedNext opening = 0
+zeroedNext (working n c segs rows) = 0
+zeroedNext (whole n c segs rows) = length rows - 1
+
+-- how many the last of the answers taken set to zeros
+abbrev pub zeroed : Settings → (Y : List Bool) → List Answer → ℕ
+zeroed S Y [] = 0
+zeroed S Y (a ∷ l) = zeroedNext (run S Y l)

@@ -2,16 +2,16 @@
 use mathlib.Core.Path.{_≡_}
 use mathlib.Core.Bool.{Bool, true}
 use mathlib.Core.Logic.{_⊎_}
-use mathlib.Core.List.{List, [], _∷_}
+use mathlib.Core.List.{List, [], _∷_, _++_}
 use mathlib.Core.Option.{none, some}
 use Prim.Native.Nat.{ℕ, _+_, _*_, _/_, max, _≤_}
-use lib.ListN.{length, take}
+use lib.ListN.{length}
 use Rattle.messages.specs.Answers.{Answer, answerBytes}
 use Rattle.messages.specs.Questions.{questionBytes, readQuestion}
 use Rattle.messages.specs.declared.Question.{Question}
 use Rattle.messages.specs.declared.QuestionRead.the-variants.{Asked}
 use Rattle.protocol.specs.Anchors.{part}
-use Rattle.protocol.specs.Claims.{isWait, At, Finished, Settled, total}
+use Rattle.protocol.specs.Claims.{isWait, At, Finished, Settled, total, rowsAtFront, zeroed}
 use Rattle.protocol.specs.HolderCall.{Heard, declines, freshHolder, holderCall, replies}
 use Rattle.protocol.specs.RebuilderCall.{Rooms, Step, Taken, rebuilderCall, rebuilderStart, refuses, sheetAfter, starts, stringAfter, takes, writtenQuestion}
 use Rattle.protocol.specs.Runs.{Honest, copies, piecesOf, question, run, sheetOf, string, told, full}
@@ -21,7 +21,7 @@ use Rattle.protocol.specs.declared.How.{How}
 use Rattle.protocol.specs.declared.Rebuilder.{Rebuilder}
 use Rattle.protocol.specs.declared.Row.{Row}
 use Rattle.protocol.specs.declared.Settings.{Settings}
-use Rattle.strings.specs.Bits.{bytesFor, range}
+use Rattle.strings.specs.Bits.{atFront, bytesFor, pack, range}
 use Rattle.strings.specs.StringRule.{stringRule}
 
 -- ---- 01, demand 3: lists of calls
@@ -114,8 +114,8 @@ pub record OnceEach (S : Settings) (Y : List Bool) (l : List Answer) (hs : List 
   pub many : length hs ≡ length l
   pub each : (m : List ℕ) → Member m hs → (q : Question) × Earlier S Y l q × (m ≡ questionBytes q)
 
--- Demand 3 of a world; l are the answers that the rebuilder took, the last one first
-pub record Demand3 (c : Lent) (H : Holder) (r : Rebuilder) (bs : List ℕ) (sh : List Row) (waiting : List ℕ) (hs ts : List (List ℕ)) (l : List Answer) : Type 0 where
+-- Demand 3 of a world; bs₀ and sh₀ are string buffer and sheet as first lent, l the answers that the rebuilder took, the last one first
+pub record Demand3 (c : Lent) (bs₀ : List ℕ) (sh₀ : List Row) (H : Holder) (r : Rebuilder) (bs : List ℕ) (sh : List Row) (waiting : List ℕ) (hs ts : List (List ℕ)) (l : List Answer) : Type 0 where
   -- the messages that the rebuilder took are these answers, each the holder's
   pub messages : ts ≡ sent l
   pub honest : Honest (c .settings) (bitsOfX c) (bitsOfY c) l
@@ -135,9 +135,11 @@ pub record Demand3 (c : Lent) (H : Holder) (r : Rebuilder) (bs : List ℕ) (sh :
   pub bytes : countedBytes ts ≤ c .settings .ceiling + full (c .xbits) + max 9 (full (c .xbits))
   -- "At most 32 pieces ever wait"
   pub few : total isWait (piecesOf (run (c .settings) (bitsOfY c) l)) ≤ 32
-  -- the string buffer has the settled pieces' bits, zeros for what waits; the used rows of the sheet are the settled pieces' in order of settling
-  pub string : range bs 0 (r .n) ≡ string (piecesOf (run (c .settings) (bitsOfY c) l))
-  pub sheet : take (r .rows) sh ≡ sheetOf (run (c .settings) (bitsOfY c) l)
+  -- the string buffer: the settled pieces' bits and zeros for what waits, packed at its front; later bytes keep what they had
+  pub string : bs ≡ atFront (pack (string (piecesOf (run (c .settings) (bitsOfY c) l)))) bs₀
+  -- the sheet: the settled pieces' rows in order of settling at its front; zeros in those that the whole string's row replaced; unused rows keep what they had
+  pub sheet : sh ≡ rowsAtFront (sheetOf (run (c .settings) (bitsOfY c) l)) (zeroed (c .settings) (bitsOfY c) l) sh₀
+  pub used : r .rows ≡ length (sheetOf (run (c .settings) (bitsOfY c) l))
   pub rows : length (sheetOf (run (c .settings) (bitsOfY c) l)) ≤ 2 * (c .xbits / c .settings .m) + 1
   -- the copies of the pieces are together Y
   pub copied : (piecesOf (run (c .settings) (bitsOfY c) l) ≡ []) ⊎ (copies (piecesOf (run (c .settings) (bitsOfY c) l)) ≡ bitsOfY c)
@@ -154,10 +156,23 @@ pub record Supposed (c : Lent) (r : Rebuilder) (q : List ℕ) (bs : List ℕ) (s
   pub string : bytesFor (c .xbits) ≤ length bs
   pub sheet : 2 * (c .xbits / c .settings .m) + 1 ≤ length sh
 
-abbrev pub Delivered : Lent → World → Type 0
-Delivered c (world H r bs sh q hs ts) = (l : List Answer) × Demand3 c H r bs sh q hs ts l
+abbrev pub Delivered : Lent → (bs₀ : List ℕ) (sh₀ : List Row) → World → Type 0
+Delivered c bs₀ sh₀ (world H r bs sh q hs ts) = (l : List Answer) × Demand3 c bs₀ sh₀ H r bs sh q hs ts l
 
 -- 01, demand 3: for X, Y, settings and buffers as supposed, and every list of calls in which the rebuilder takes only the holder's answers
 abbrev pub DemandThree : Type 0
 DemandThree = (c : Lent) (r : Rebuilder) (q : List ℕ) (bs : List ℕ) (sh : List Row) → Supposed c r q bs sh
-    → (ks : List Call) → Fair c (firstWorld r q bs sh) ks → Delivered c (worldAfter c (firstWorld r q bs sh) ks)
+    → (ks : List Call) → Fair c (firstWorld r q bs sh) ks → Delivered c bs sh (worldAfter c (firstWorld r q bs sh) ks)
+
+-- ---- that runs end
+-- the question waiting, and how many answers the rebuilder took
+abbrev pub waitingIn : World → List ℕ
+waitingIn (world H r bs sh q hs ts) = q
+
+abbrev pub takenIn : World → ℕ
+takenIn (world H r bs sh q hs ts) = length ts
+
+-- every such list can be gone on with until no question waits
+abbrev pub RunsEnd : Type 0
+RunsEnd = (c : Lent) (r : Rebuilder) (q : List ℕ) (bs : List ℕ) (sh : List Row) → Supposed c r q bs sh → (ks : List Call) → Fair c (firstWorld r q bs sh) ks
+    → (more : List Call) × Fair c (firstWorld r q bs sh) (more ++ ks) × (waitingIn (worldAfter c (firstWorld r q bs sh) (more ++ ks)) ≡ [])

@@ -20,3 +20,4 @@ pub mod SheetRoom
 pub mod HolderLaws
 pub mod Delivery
 pub mod CallLists
+pub mod RunEnds

@@ -52,9 +52,9 @@ asks-number S pc (suc (suc (suc (suc j)))) =
     rw (ne-eqb (suc (suc (suc (suc j)))) 0 (λ z. omega arith), le-leb 4 (suc (suc (suc (suc j)))) (omega arith)) refl
 
 -- a state asks what the store that it stands for asks
-pub asks-planned : (S : Settings) (yb : ℕ) (st : Rebuilder) (bs : List ℕ) (sh : List Row) (s : Store) → Stands S yb st bs sh s → planned st ≡ askStore S s
+pub asks-planned : {S : Settings} {yb : ℕ} {bs₀ : List ℕ} {sh₀ : List Row} {z : ℕ} {st : Rebuilder} {bs : List ℕ} {sh : List Row} {s : Store} → Stands S yb bs₀ sh₀ z st bs sh s → planned st ≡ askStore S s
 unfolding planned top
-asks-planned S yb st bs sh s h = go (st .phase) refl
+asks-planned {S} {st = st} {s = s} h = go (st .phase) refl
   where
     ask-top : (w : ℕ) (arr : List Piece) (j : ℕ) → cond (eqb w 0) none (some (askFor (S .m) j (getD arr (w - 1) noPiece))) ≡ askTop S (stageHeld S j (held w arr)) (held w arr)
     ask-top zero arr j = refl
@@ -65,14 +65,14 @@ asks-planned S yb st bs sh s h = go (st .phase) refl
     go : (k : ℕ) → st .phase ≡ k → planned st ≡ askStore S s
     go zero e =
         rw (eq-eqb (st .phase) 0 e, h .settings)
-        (sym (ap (askStore S) (h .is) ∙ ap (λ (k : ℕ). askStore S (store (numberedPhase k) (st .n) (st .counted) (stageHeld S (st .stage) (held (st .waiting) (st .pieces))) (held (st .waiting) (st .pieces)) (range bs 0 (st .n)) (h .rows))) e))
+        (sym (ap (askStore S) (h .is) ∙ ap (λ (k : ℕ). askStore S (store (numberedPhase k) (st .n) (st .counted) (stageHeld S (st .stage) (held (st .waiting) (st .pieces))) (held (st .waiting) (st .pieces)) (h .str) (h .rows))) e))
     go (suc zero) e =
         rw (ne-eqb (st .phase) 0 (λ z. omega arith), eq-eqb (st .phase) 1 e, h .settings)
         (ask-top (st .waiting) (st .pieces) (st .stage)
-        ∙ sym (ap (askStore S) (h .is) ∙ ap (λ (k : ℕ). askStore S (store (numberedPhase k) (st .n) (st .counted) (stageHeld S (st .stage) (held (st .waiting) (st .pieces))) (held (st .waiting) (st .pieces)) (range bs 0 (st .n)) (h .rows))) e))
+        ∙ sym (ap (askStore S) (h .is) ∙ ap (λ (k : ℕ). askStore S (store (numberedPhase k) (st .n) (st .counted) (stageHeld S (st .stage) (held (st .waiting) (st .pieces))) (held (st .waiting) (st .pieces)) (h .str) (h .rows))) e))
     go (suc (suc k)) e =
         rw (ne-eqb (st .phase) 0 (λ z. omega arith), ne-eqb (st .phase) 1 (λ z. omega arith))
-        (sym (ap (askStore S) (h .is) ∙ ap (λ (k : ℕ). askStore S (store (numberedPhase k) (st .n) (st .counted) (stageHeld S (st .stage) (held (st .waiting) (st .pieces))) (held (st .waiting) (st .pieces)) (range bs 0 (st .n)) (h .rows))) e))
+        (sym (ap (askStore S) (h .is) ∙ ap (λ (k : ℕ). askStore S (store (numberedPhase k) (st .n) (st .counted) (stageHeld S (st .stage) (held (st .waiting) (st .pieces))) (held (st .waiting) (st .pieces)) (h .str) (h .rows))) e))
 
 -- ---- what a reader lets through is proper, and the holder's answers are read
 pub proper-of : (S : Settings) (q : Question) (a : Answer) → Passes (questionKind q) (questionLength q) (S .h) a → Proper S q a

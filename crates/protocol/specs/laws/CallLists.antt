@@ -7,7 +7,7 @@ use mathlib.Core.Option.{Option, none, some}
 use Prim.Native.Nat.{ℕ, suc, _+_, _*_, _/_, max, _≤_}
 use native.Mathlib.Nat.{div-le-self}
 use native.Mathlib.Omega.{arith}
-use lib.ListN.{length, take}
+use lib.ListN.{length}
 use lib.Dec.{leb}
 use borrow.Author.Tests.{eq-eqb, le-leb, lt-ltb, ne-eqb}
 use Rattle.messages.specs.laws.AnswerLaws.{answer-reads}
@@ -25,9 +25,10 @@ use Rattle.protocol.specs.HolderCall.{Heard, afterAnswer, declines, fres
 use Rattle.protocol.specs.laws.HolderLaws.{Made, OpenedIs, counts, fresh-holder-sound, heard-call, heard-made, holder-sound, opened-sound, opens}
 use Rattle.protocol.specs.laws.Invariant.{Truth, proper-now, question-inside, run-ok, sizeOfRun}
 use Rattle.protocol.specs.laws.Kept.{bytesOf, count-is, kept}
+use Rattle.protocol.specs.Claims.{rowsAtFront, zeroed, zeroedNext}
 use Rattle.protocol.specs.Limits.{Limits}
 use Rattle.protocol.specs.RebuilderCall.{Step, Taken, bitsKnown, freshRebuilder, questionLength, rebuilderCall, refuses, roomFor, sheetAfter, stepOf, stringAfter, takes, writtenQuestion}
-use Rattle.protocol.specs.Runs.{Honest, Run, answer, countOf, opening, piecesOf, question, run, sheetOf, sizeOf, string, told, whole, working, full}
+use Rattle.protocol.specs.Runs.{Honest, Run, advance, answer, countOf, opening, piecesOf, question, run, sheetOf, sizeOf, string, told, whole, working, full}
 use Rattle.protocol.specs.Segments.{asks, settled}
 use Rattle.protocol.specs.laws.Shape.{Inside, Proper, sizes}
 use Rattle.protocol.specs.laws.SoundLaws.{and-true}
@@ -43,7 +44,8 @@ use Rattle.protocol.specs.declared.Holder.{Holder}
 use Rattle.protocol.specs.declared.Rebuilder.{Rebuilder}
 use Rattle.protocol.specs.declared.Row.{Row}
 use Rattle.protocol.specs.declared.Settings.{Settings}
-use Rattle.strings.specs.Bits.{bytesFor, range}
+use Rattle.strings.specs.Bits.{atFront, bytesFor, pack, range}
+use Rattle.strings.specs.laws.PackLaws.{pack-none}
 use Rattle.strings.specs.laws.RangeLaws.{range-length}
 use Rattle.strings.specs.laws.RuleLaws.{rule-is}
 
@@ -74,7 +76,7 @@ module _ (c : Lent) (r₀ : Rebuilder) (q₀ : List ℕ) (bs₀ : List ℕ) (sh�
   y-length : length Y ≡ c .ybits
   y-length = range-length (c .y) 0 (c .ybits)
 
-  x-few : c .xbits ≤ 65536
+  pub x-few : c .xbits ≤ 65536
   x-few = rule-is (c .x) (c .xbits) (sup .reference) .few
 
   nX : length X ≤ 65536
@@ -118,7 +120,7 @@ module _ (c : Lent) (r₀ : Rebuilder) (q₀ : List ℕ) (bs₀ : List ℕ) (sh�
   -- ---- the rebuilder
   pub record Rep (r : Rebuilder) (bs : List ℕ) (sh : List Row) (w : List ℕ) (l : List Answer) : Type 0 where
     pub honest : Honest S X Y l
-    pub stands : Stands S (length Y) r bs sh (storeOf (run S Y l))
+    pub stands : Stands S (length Y) bs₀ sh₀ (zeroed S Y l) r bs sh (storeOf (run S Y l))
     pub tidy : Tidy S (run S Y l)
     pub sound-now : sound r ≡ true
     pub answered : r .answered ≡ length l
@@ -127,39 +129,42 @@ module _ (c : Lent) (r₀ : Rebuilder) (q₀ : List ℕ) (bs₀ : List ℕ) (sh�
     pub asks : w ≡ writtenQuestion (question S (run S Y l))
 
   planned-is : (r : Rebuilder) (bs : List ℕ) (sh : List Row) (w : List ℕ) (l : List Answer) → Rep r bs sh w l → planned r ≡ question S (run S Y l)
-  planned-is r bs sh w l k = asks-planned S (length Y) r bs sh (storeOf (run S Y l)) (k .stands) ∙ asks-same S (run S Y l)
+  planned-is r bs sh w l k = asks-planned (k .stands) ∙ asks-same S (run S Y l)
 
   -- the bits that the call counts its buffers by
-  bits-known : (r : Rebuilder) (bs : List ℕ) (sh : List Row) (s : Run) (q : Question) → Stands S (length Y) r bs sh (storeOf s) → Truth S X s → question S s ≡ some q → bitsKnown r (told S X q) ≡ c .xbits
-  bits-known r bs sh opening q h t k =
+  bits-known : (r : Rebuilder) (bs : List ℕ) (sh : List Row) (z : ℕ) (s : Run) (q : Question) → Stands S (length Y) bs₀ sh₀ z r bs sh (storeOf s) → Truth S X s → question S s ≡ some q → bitsKnown r (told S X q) ≡ c .xbits
+  bits-known r bs sh z opening q h t k =
       let hi = h .is in
       let ep : atOpening ≡ numberedPhase (r .phase) = cc in
       let e : AskOpen (S .h) (S .key) ≡ q = cc in
       rw (eq-eqb (r .phase) 0 (phase-none (r .phase) ep), ← e) x-length
-  bits-known r bs sh (working n d segs rows) q h t k =
+  bits-known r bs sh z (working n d segs rows) q h t k =
       let hi = h .is in
       let ep : atPieces ≡ numberedPhase (r .phase) = cc in
       let en : n ≡ r .n = cc in
       let p = phase-one (r .phase) ep in
       rw (ne-eqb (r .phase) 0 (λ z. omega arith)) (sym en ∙ t .0 ∙ x-length)
-  bits-known r bs sh (whole n d segs rows) q h t k =
+  bits-known r bs sh z (whole n d segs rows) q h t k =
       let hi = h .is in
       let ep : atWhole ≡ numberedPhase (r .phase) = cc in
       let en : n ≡ r .n = cc in
       let p = phase-two (r .phase) ep in
       rw (ne-eqb (r .phase) 0 (λ z. omega arith)) (sym en ∙ t .0 ∙ x-length)
 
-  room-for : (s : Run) (q : Question) (bs : List ℕ) (sh : List Row) → Truth S X s → question S s ≡ some q → length bs ≡ length bs₀ → length sh ≡ length sh₀ → RoomFor S s (told S X q) bs sh
-  room-for opening q bs sh t k a b =
-      let e : AskOpen (S .h) (S .key) ≡ q = cc in
-      let u = sup .string in let v = sup .sheet in let xl = x-length in
-      rw (← e) (rw xl (omega arith), rw xl (omega arith))
-  room-for (working n d segs rows) q bs sh t k a b =
-      let e : n ≡ c .xbits = t .0 ∙ x-length in
-      let u = sup .string in let v = sup .sheet in rw e (omega arith, omega arith)
-  room-for (whole n d segs rows) q bs sh t k a b =
-      let e : n ≡ c .xbits = t .0 ∙ x-length in
-      let u = sup .string in let v = sup .sheet in rw e (omega arith, omega arith)
+  room-for : (s : Run) (q : Question) → Truth S X s → question S s ≡ some q → RoomFor S s (told S X q) bs₀ sh₀
+  room-for opening q t k = let e : AskOpen (S .h) (S .key) ≡ q = cc in rw (← e, x-length) (sup .string, sup .sheet)
+  room-for (working n d segs rows) q t k = let e : n ≡ c .xbits = t .0 ∙ x-length in rw e (sup .string, sup .sheet)
+  room-for (whole n d segs rows) q t k = let e : n ≡ c .xbits = t .0 ∙ x-length in rw e (sup .string, sup .sheet)
+
+  -- while a question waits no row is set to zeros: the whole string's answer is the last
+  none-zeroed : (l : List Answer) (q : Question) → question S (run S Y l) ≡ some q → zeroed S Y l ≡ 0
+  none-zeroed [] q k = refl
+  none-zeroed (a ∷ l) q k = go (run S Y l) k
+    where
+      go : (s : Run) → question S (advance S Y s a) ≡ some q → zeroedNext s ≡ 0
+      go opening e = refl
+      go (working n d segs rows) e = refl
+      go (whole n d segs rows) e = let z : _≡_ {A = ℕ} 0 1 = cc in absurd (omega arith)
 
   module _ (r : Rebuilder) (bs : List ℕ) (sh : List Row) (w : List ℕ) (l : List Answer) (k : Rep r bs sh w l) (q : Question) (wq : question S (run S Y l) ≡ some q) where
     abbrev a : Answer
@@ -174,7 +179,7 @@ module _ (c : Lent) (r₀ : Rebuilder) (q₀ : List ℕ) (bs₀ : List ℕ) (sh�
     room-true : roomFor r (bitsKnown r a) (roomsOf c bs sh) ≡ true
     room-true =
         let v = run-ok S X Y L nX l (k .honest) in
-        let e = bits-known r bs sh (run S Y l) q (k .stands) (v .1) wq in
+        let e = bits-known r bs sh (zeroed S Y l) (run S Y l) q (k .stands) (v .1) wq in
         let u = sup .string in let s = sup .sheet in
         let x = k .string-room in let y = k .sheet-room in
         let g : 8 ≤ c .questionRoom = begun .enough in
@@ -206,8 +211,9 @@ module _ (c : Lent) (r₀ : Rebuilder) (q₀ : List ℕ) (bs₀ : List ℕ) (sh�
         let pl : planned r ≡ some q = planned-is r bs sh w l k ∙ wq in
         let kp = keeps-pace S Y L (length l) (run S Y l) q a o (v .0) (k .tidy) wq in
         let sn = step-sound r (c .y) q a (length m) (k .stands .array) (k .sound-now) pl (rw (k .stands .settings) o) refl in
-        let ss = stands-step S Y L (c .y) y-range r bs sh (length l) (run S Y l) q a (length m) (k .stands) (v .0) wq o refl (room-for (run S Y l) q bs sh (v .1) wq (k .string-room) (k .sheet-room)) in
-        let st : Stands S (length Y) (next .state) (stringAfter bs (next .string)) (sheetAfter sh (next .sheet)) (storeOf (run S Y (a ∷ l))) = rw (kp .0) ss in
+        let sk : Stands S (length Y) bs₀ sh₀ 0 r bs sh (storeOf (run S Y l)) = rw (none-zeroed l q wq) at (k .stands) in
+        let ss = stands-step S Y L (c .y) y-range bs₀ sh₀ r bs sh (length l) (run S Y l) q a (length m) sk (v .0) wq o refl (room-for (run S Y l) q (v .1) wq) in
+        let st : Stands S (length Y) bs₀ sh₀ (zeroed S Y (a ∷ l)) (next .state) (stringAfter bs (next .string)) (sheetAfter sh (next .sheet)) (storeOf (run S Y (a ∷ l))) = rw (kp .0) ss in
         let an = step-answered r (c .y) q a (length m) (k .stands .array) (k .sound-now) pl in
         let ka = k .answered in
         record {
@@ -218,7 +224,7 @@ module _ (c : Lent) (r₀ : Rebuilder) (q₀ : List ℕ) (bs₀ : List ℕ) (sh�
           answered = omega arith;
           string-room = string-length-after bs (next .string) ∙ k .string-room;
           sheet-room = sheet-length-after sh (next .sheet) ∙ k .sheet-room;
-          asks = ap writtenQuestion (asks-planned S (length Y) (next .state) (stringAfter bs (next .string)) (sheetAfter sh (next .sheet)) (storeOf (run S Y (a ∷ l))) st ∙ asks-same S (run S Y (a ∷ l)));
+          asks = ap writtenQuestion (asks-planned st ∙ asks-same S (run S Y (a ∷ l)));
         }
 
   -- ---- the holder
@@ -309,7 +315,7 @@ module _ (c : Lent) (r₀ : Rebuilder) (q₀ : List ℕ) (bs₀ : List ℕ) (sh�
       )
 
   -- ---- every list of calls
-  abbrev Known : World → Type 0
+  abbrev pub Known : World → Type 0
   Known (world H r bs sh w hs ts) = (l : List Answer) × Rep r bs sh w l × (ts ≡ sent l) × HolderIs H hs
 
   -- a fair message is the answer to the run's question
@@ -359,7 +365,6 @@ module _ (c : Lent) (r₀ : Rebuilder) (q₀ : List ℕ) (bs₀ : List ℕ) (sh�
   step-known (world H r bs sh w hs ts) (toRebuilder m) i f = rebuilder-known H r bs sh w hs ts m i f
 
   first-known : Known (firstWorld r₀ q₀ bs₀ sh₀)
-  unfolding range
   first-known =
       let yl = y-length in
       let yr = rule-is (c .y) (c .ybits) (begun .string) in
@@ -369,7 +374,7 @@ module _ (c : Lent) (r₀ : Rebuilder) (q₀ : List ℕ) (bs₀ : List ℕ) (sh�
         [],
         record {
           honest = tt;
-          stands = record { rows = []; is = refl; used = refl; sheet = refl; bits = omega arith; line = omega arith; settings = refl; copy = sym y-length; array = fs .1 };
+          stands = record { str = []; rows = []; is = refl; size = refl; string = sym (ap (λ (u : List ℕ). atFront u bs₀) pack-none); used = refl; sheet = refl; settings = refl; copy = sym y-length; array = fs .1 };
           tidy = tt;
           sound-now = fs .0;
           answered = refl;
@@ -381,7 +386,7 @@ module _ (c : Lent) (r₀ : Rebuilder) (q₀ : List ℕ) (bs₀ : List ℕ) (sh�
         unopened refl refl,
       ))
 
-  known : (ks : List Call) → Fair c (firstWorld r₀ q₀ bs₀ sh₀) ks → Known (worldAfter c (firstWorld r₀ q₀ bs₀ sh₀) ks)
+  pub known : (ks : List Call) → Fair c (firstWorld r₀ q₀ bs₀ sh₀) ks → Known (worldAfter c (firstWorld r₀ q₀ bs₀ sh₀) ks)
   known [] f = first-known
   known (k ∷ ks) f = step-known (worldAfter c (firstWorld r₀ q₀ bs₀ sh₀) ks) k (known ks (f .0)) (f .1)
 
@@ -397,30 +402,42 @@ module _ (c : Lent) (r₀ : Rebuilder) (q₀ : List ℕ) (bs₀ : List ℕ) (sh�
   bytes-sent (a ∷ b ∷ l) = ap (λ (n : ℕ). length (answerBytes a) + n) (bytes-sent (b ∷ l))
 
   -- what a state that stands for a run shows of it
-  abbrev Shows : Rebuilder → List ℕ → List Row → Run → Type 0
-  Shows r bs sh s = (range bs 0 (r .n) ≡ string (piecesOf s)) × (r .counted ≡ countOf s) × (take (r .rows) sh ≡ sheetOf s)
+  pub record Shows (z : ℕ) (r : Rebuilder) (bs : List ℕ) (sh : List Row) (s : Run) : Type 0 where
+    pub string : bs ≡ atFront (pack (string (piecesOf s))) bs₀
+    pub counted : r .counted ≡ countOf s
+    pub sheet : sh ≡ rowsAtFront (sheetOf s) z sh₀
+    pub used : r .rows ≡ length (sheetOf s)
 
-  shows : (r : Rebuilder) (bs : List ℕ) (sh : List Row) (s : Run) → Stands S (length Y) r bs sh (storeOf s) → Shows r bs sh s
-  shows r bs sh opening h = let hi = h .is in let e₁ : range bs 0 (r .n) ≡ [] = cc in let e₂ : r .counted ≡ 0 = cc in let e₃ : h .rows ≡ [] = cc in (e₁, e₂, h .sheet ∙ e₃)
-  shows r bs sh (working n d segs rows) h = let hi = h .is in let e₁ : range bs 0 (r .n) ≡ string segs = cc in let e₂ : r .counted ≡ d = cc in let e₃ : h .rows ≡ rows = cc in (e₁, e₂, h .sheet ∙ e₃)
-  shows r bs sh (whole n d segs rows) h = let hi = h .is in let e₁ : range bs 0 (r .n) ≡ string segs = cc in let e₂ : r .counted ≡ d = cc in let e₃ : h .rows ≡ rows = cc in (e₁, e₂, h .sheet ∙ e₃)
+  module _ (z : ℕ) (r : Rebuilder) (bs : List ℕ) (sh : List Row) where
+    shown : (s : Run) (h : Stands S (length Y) bs₀ sh₀ z r bs sh (storeOf s)) → h .str ≡ string (piecesOf s) → r .counted ≡ countOf s → h .rows ≡ sheetOf s → Shows z r bs sh s
+    shown s h e f g = record {
+      string = h .string ∙ ap (λ (l : List Bool). atFront (pack l) bs₀) e;
+      counted = f;
+      sheet = h .sheet ∙ ap (λ (l : List Row). rowsAtFront l z sh₀) g;
+      used = h .used ∙ ap length g;
+    }
 
-  size-shown : (r : Rebuilder) (bs : List ℕ) (sh : List Row) (s : Run) → Stands S (length Y) r bs sh (storeOf s) → Truth S X s → question S s ≡ none → r .n ≡ c .xbits
-  size-shown r bs sh opening h t k = let z : _≡_ {A = ℕ} 0 1 = cc in absurd (omega arith)
-  size-shown r bs sh (working n d segs rows) h t k = let hi = h .is in let e : r .n ≡ n = cc in e ∙ t .0 ∙ x-length
-  size-shown r bs sh (whole n d segs rows) h t k = let z : _≡_ {A = ℕ} 0 1 = cc in absurd (omega arith)
+    shows : (s : Run) → Stands S (length Y) bs₀ sh₀ z r bs sh (storeOf s) → Shows z r bs sh s
+    shows opening h = let hi = h .is in shown opening h (cc) (cc) (cc)
+    shows (working n d segs rows) h = let hi = h .is in shown (working n d segs rows) h (cc) (cc) (cc)
+    shows (whole n d segs rows) h = let hi = h .is in shown (whole n d segs rows) h (cc) (cc) (cc)
 
-  claimed : (w : World) → Known w → Delivered c w
+  size-shown : (z : ℕ) (r : Rebuilder) (bs : List ℕ) (sh : List Row) (s : Run) → Stands S (length Y) bs₀ sh₀ z r bs sh (storeOf s) → Truth S X s → question S s ≡ none → r .n ≡ c .xbits
+  size-shown z r bs sh opening h t k = let z : _≡_ {A = ℕ} 0 1 = cc in absurd (omega arith)
+  size-shown z r bs sh (working n d segs rows) h t k = let hi = h .is in let e : r .n ≡ n = cc in e ∙ t .0 ∙ x-length
+  size-shown z r bs sh (whole n d segs rows) h t k = let z : _≡_ {A = ℕ} 0 1 = cc in absurd (omega arith)
+
+  pub claimed : (w : World) → Known w → Delivered c bs₀ sh₀ w
   claimed (world H r bs sh w hs ts) k =
       let l = k .0 in
       let rep = k .1 in
       let v = run-ok S X Y L nX l (rep .honest) in
       let kp = kept S X Y L nX (length l) (run S Y l) (v .0) (v .1) in
-      let sw = shows r bs sh (run S Y (k .0)) (rep .stands) in
+      let sw = shows (zeroed S Y (k .0)) r bs sh (run S Y (k .0)) (rep .stands) in
       let sl : length ts ≡ length l = ap length (k .2) ∙ sent-length (k .0) in
       let cb : countedBytes ts ≡ bytesOf l = ap countedBytes (k .2) ∙ bytes-sent (k .0) in
       let ci = count-is S Y (k .0) in
-      let s₁ = sw .1 in
+      let s₁ = sw .counted in
       let ka = rep .answered in
       let kq : length l ≤ 10 * (c .xbits / S .m) + 6 = rw x-length at (kp .questions) in
       let kb : countOf (run S Y (k .0)) ≤ S .ceiling + full (c .xbits) + max 9 (full (c .xbits)) = rw x-length at (kp .bytes) in (
@@ -436,15 +453,16 @@ module _ (c : Lent) (r₀ : Rebuilder) (q₀ : List ℕ) (bs₀ : List ℕ) (sh�
           counted = omega arith;
           bytes = omega arith;
           few = kp .few;
-          string = sw .0;
-          sheet = sw .2;
+          string = sw .string;
+          sheet = sw .sheet;
+          used = sw .used;
           rows = rw x-length at (kp .sheet);
           copied = kp .copied;
           settled = kp .settled;
-          finish = λ e. (kp .finish e, size-shown r bs sh (run S Y (k .0)) (rep .stands) (v .1) e);
+          finish = λ e. (kp .finish e, size-shown (zeroed S Y (k .0)) r bs sh (run S Y (k .0)) (rep .stands) (v .1) e);
         },
       )
 
   -- every list of calls in which the rebuilder takes only the holder's answer to the question then waiting
-  pub all-lists : (ks : List Call) → Fair c (firstWorld r₀ q₀ bs₀ sh₀) ks → Delivered c (worldAfter c (firstWorld r₀ q₀ bs₀ sh₀) ks)
+  pub all-lists : (ks : List Call) → Fair c (firstWorld r₀ q₀ bs₀ sh₀) ks → Delivered c bs₀ sh₀ (worldAfter c (firstWorld r₀ q₀ bs₀ sh₀) ks)
   all-lists ks f = claimed (worldAfter c (firstWorld r₀ q₀ bs₀ sh₀) ks) (known ks f)

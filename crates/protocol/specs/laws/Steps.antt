@@ -14,7 +14,7 @@ use Rattle.messages.specs.Answers.{Answer}
 use Rattle.messages.specs.declared.Question.{Question}
 use Rattle.messages.specs.declared.Question.the-variants.{AskBits}
 use Rattle.protocol.specs.Anchors.{part}
-use Rattle.protocol.specs.Claims.{isWait, rowSum, total}
+use Rattle.protocol.specs.Claims.{isWait, rowSum, rowsAtFront, total, zeroedNext}
 use Rattle.protocol.specs.laws.Counts.{rowCost}
 use Rattle.protocol.specs.laws.Invariant.{Held, Inv, work-chain}
 use Rattle.protocol.specs.laws.Kept.{rows-cost, rows-length}
@@ -35,7 +35,8 @@ use Rattle.protocol.specs.declared.Piece.{Piece}
 use Rattle.protocol.specs.declared.Rebuilder.{Rebuilder}
 use Rattle.protocol.specs.declared.Row.{Row}
 use Rattle.protocol.specs.declared.Settings.{Settings}
-use Rattle.strings.specs.Bits.{bytesFor, range}
+use Rattle.strings.specs.Bits.{atFront, bytesFor, pack, range}
+use Rattle.strings.specs.laws.PackLaws.{pack-none}
 use Rattle.strings.specs.laws.RangeLaws.{range-part}
 use Rattle.strings.specs.laws.Tests.{true-false}
 
@@ -149,11 +150,11 @@ module _ (st : Rebuilder) (y : List ℕ) (size : ℕ) (a : Answer) where
 
 -- room for the bits that the run knows of, or is told of
 abbrev pub RoomFor : Settings → Run → Answer → List ℕ → List Row → Type 0
-RoomFor S opening a bs sh = (bytesFor (theSize a) ≤ length bs) × (2 * (theSize a / S .m) + 1 ≤ length sh)
-RoomFor S (working n c segs rows) a bs sh = (bytesFor n ≤ length bs) × (2 * (n / S .m) + 1 ≤ length sh)
-RoomFor S (whole n c segs rows) a bs sh = (bytesFor n ≤ length bs) × (2 * (n / S .m) + 1 ≤ length sh)
+RoomFor S opening a bs₀ sh₀ = (bytesFor (theSize a) ≤ length bs₀) × (2 * (theSize a / S .m) + 1 ≤ length sh₀)
+RoomFor S (working n c segs rows) a bs₀ sh₀ = (bytesFor n ≤ length bs₀) × (2 * (n / S .m) + 1 ≤ length sh₀)
+RoomFor S (whole n c segs rows) a bs₀ sh₀ = (bytesFor n ≤ length bs₀) × (2 * (n / S .m) + 1 ≤ length sh₀)
 
-module _ (S : Settings) (Y : List Bool) (L : Limits S) (y : List ℕ) (yr : range y 0 (length Y) ≡ Y) where
+module _ (S : Settings) (Y : List Bool) (L : Limits S) (y : List ℕ) (yr : range y 0 (length Y) ≡ Y) (bs₀ : List ℕ) (sh₀ : List Row) where
   -- the state's effect is the protocol's
   effect-same : (st : Rebuilder) (a : Answer) → st .settings ≡ S → top st .y + top st .q ≤ length Y
       → effect (st .settings) a (top st .p) (range y (top st .y) (top st .q)) (numberedStage (st .settings) (top st .p) (top st .q) (st .stage))
@@ -164,8 +165,8 @@ module _ (S : Settings) (Y : List Bool) (L : Limits S) (y : List ℕ) (yr : rang
       (ap (λ (n : ℕ). range y n (top st .q)) (sym (zero-add (top st .y))) ∙ sym (range-part y 0 (length Y) (top st .y) (top st .q) h) ∙ ap (λ (l : List Bool). part l (top st .y) (top st .q)) yr)
 
   working-step : (st : Rebuilder) (bs : List ℕ) (sh : List Row) (n c : ℕ) (segs : List Segment) (rows : List Row) (q : Question) (a : Answer) (size : ℕ)
-      → Stands S (length Y) st bs sh (storeOf (working n c segs rows)) → Held S Y n segs rows → ask S 0 segs ≡ some q → Proper S q a → size ≡ sizeOf a → 2 * (n / S .m) + 1 ≤ length sh
-      → Stands S (length Y) (stepOf st y size a .state) (stringAfter bs (stepOf st y size a .string)) (sheetAfter sh (stepOf st y size a .sheet)) (stepStore S Y (storeOf (working n c segs rows)) a)
+      → Stands S (length Y) bs₀ sh₀ 0 st bs sh (storeOf (working n c segs rows)) → Held S Y n segs rows → ask S 0 segs ≡ some q → Proper S q a → size ≡ sizeOf a → 2 * (n / S .m) + 1 ≤ length sh₀
+      → Stands S (length Y) bs₀ sh₀ 0 (stepOf st y size a .state) (stringAfter bs (stepOf st y size a .string)) (sheetAfter sh (stepOf st y size a .sheet)) (stepStore S Y (storeOf (working n c segs rows)) a)
   unfolding top
   working-step st bs sh n c segs rows q a size h hd k o sz room =
       let hi = h .is in
@@ -192,29 +193,38 @@ module _ (S : Settings) (Y : List Bool) (L : Limits S) (y : List ℕ) (yr : rang
       let hf = hd .few in
       let pl : length (part Y (pc .y) (pc .q)) ≡ pc .q = part-length S L Y (pc .y) (pc .q) (pr .copy) in
       let nx : IsNext S (pc .p) (pc .q) (st .stage) e₀ = rw pl at (next-numbered S a (pc .p) (part Y (pc .y) (pc .q)) (st .stage)) in
-      let se = stands-effect S (length Y) st bs sh (storeOf (working n c segs rows)) h pos (omega arith) size e₀ wi (omega arith) nx in
-      let left : stepStore S Y (storeOf (working n c segs rows)) a ≡ applied S (st .n) (st .counted + size) pc below (range bs 0 (st .n)) (h .rows) e₀ =
+      let se = stands-effect S (length Y) bs₀ sh₀ st bs sh (storeOf (working n c segs rows)) h pos (omega arith) size e₀ wi (omega arith) nx in
+      let left : stepStore S Y (storeOf (working n c segs rows)) a ≡ applied S (st .n) (st .counted + size) pc below (h .str) (h .rows) e₀ =
       ap (λ (z : Store). stepStore S Y z a) (h .is)
-      ∙ ap₂ (λ (f : ℕ) (l : List Piece). stepStore S Y (store (numberedPhase f) (st .n) (st .counted) (stageHeld S (st .stage) l) l (range bs 0 (st .n)) (h .rows)) a) ph ht
-      ∙ ap (λ (z : ℕ). applied S (st .n) (st .counted + z) pc below (range bs 0 (st .n)) (h .rows) e₀) (sym sz) in
+      ∙ ap₂ (λ (f : ℕ) (l : List Piece). stepStore S Y (store (numberedPhase f) (st .n) (st .counted) (stageHeld S (st .stage) l) l (h .str) (h .rows)) a) ph ht
+      ∙ ap (λ (z : ℕ). applied S (st .n) (st .counted + z) pc below (h .str) (h .rows) e₀) (sym sz) in
       rw (step-pieces st y size a ph, ee, left) se
 
   pub stands-step : (st : Rebuilder) (bs : List ℕ) (sh : List Row) (asked : ℕ) (s : Run) (q : Question) (a : Answer) (size : ℕ)
-      → Stands S (length Y) st bs sh (storeOf s) → Inv S Y asked s → question S s ≡ some q → Proper S q a → size ≡ sizeOf a → RoomFor S s a bs sh
-      → Stands S (length Y) (stepOf st y size a .state) (stringAfter bs (stepOf st y size a .string)) (sheetAfter sh (stepOf st y size a .sheet)) (stepStore S Y (storeOf s) a)
+      → Stands S (length Y) bs₀ sh₀ 0 st bs sh (storeOf s) → Inv S Y asked s → question S s ≡ some q → Proper S q a → size ≡ sizeOf a → RoomFor S s a bs₀ sh₀
+      → Stands S (length Y) bs₀ sh₀ (zeroedNext s) (stepOf st y size a .state) (stringAfter bs (stepOf st y size a .string)) (sheetAfter sh (stepOf st y size a .sheet)) (stepStore S Y (storeOf s) a)
   stands-step st bs sh asked opening q a size h i k o sz room =
       let hi = h .is in
       let ep : atOpening ≡ numberedPhase (st .phase) = cc in
-      rw (step-opening st y size a (phase-none (st .phase) ep)) (stands-opening S (length Y) st bs sh (theSize a) (h .settings) (h .copy) (h .array) (room .0))
+      let es : h .str ≡ [] = cc in
+      let er : h .rows ≡ [] = cc in
+      rw (step-opening st y size a (phase-none (st .phase) ep))
+      (stands-opening S (length Y) bs₀ sh₀ st bs sh (theSize a)
+      (h .string ∙ ap (λ (l : List Bool). atFront (pack l) bs₀) es ∙ ap (λ (m : List ℕ). atFront m bs₀) pack-none) (h .sheet ∙ ap (λ (l : List Row). rowsAtFront l 0 sh₀) er)
+      (h .settings) (h .copy) (h .array) (room .0))
   stands-step st bs sh asked (working n c segs rows) q a size h i k o sz room = working-step st bs sh n c segs rows q a size h (i .0) k o sz (room .1)
   stands-step st bs sh asked (whole n c segs rows) q a size h i k o sz room =
       let hi = h .is in
       let ep : atWhole ≡ numberedPhase (st .phase) = cc in
       let en : n ≡ st .n = cc in
       let ec : c ≡ st .counted = cc in
+      let er : h .rows ≡ rows = cc in
+      let lr : length (h .rows) ≡ length rows = ap length er in
+      let hu = h .used in
+      let rc = rows-cost S 0 segs in let ra = i .0 .rowsAre (λ r. 1) in let rl = rows-length rows in let rf = i .0 .rowsFew in
       let eq : AskBits 0 n ≡ q = cc in
       let pb : length (theBits a) ≡ n = proper-bits S 0 n a (rw eq o) in
       let rm = room .1 in
       let e : stepStore S Y (storeOf (whole n c segs rows)) a ≡ store atPieces (st .n) (st .counted + size) hashing [] (theBits a) (row 0 (st .n) ByBits ∷ []) =
       (λ j. store atPieces (en j) (ec j + sym sz j) hashing [] (theBits a) (row 0 (en j) ByBits ∷ [])) in
-      rw (step-whole st y size a (phase-two (st .phase) ep), e) (stands-whole S (length Y) st bs sh (storeOf (whole n c segs rows)) h size (theBits a) (pb ∙ en) (omega arith))
+      rw (step-whole st y size a (phase-two (st .phase) ep), e, ← lr) (stands-whole S (length Y) bs₀ sh₀ st bs sh (storeOf (whole n c segs rows)) h size (theBits a) (pb ∙ en) (omega arith) (omega arith))

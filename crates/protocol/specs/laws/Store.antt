@@ -30,6 +30,7 @@ use Rattle.protocol.specs.declared.Piece.{Piece}
 use Rattle.protocol.specs.declared.Row.{Row}
 use Rattle.protocol.specs.declared.Settings.{Settings}
 use Rattle.strings.specs.laws.Tests.{by-test, true-false}
+use Rattle.strings.specs.laws.WriteLaws.{over}
 
 -- ---- the state in numbers: a device of the proofs between the runs and the state struct
 pub data Phase : Type 0 where
@@ -46,10 +47,6 @@ push pc l = cond (eqb (pc .p) 0) l (pc ∷ l)
 abbrev pub topStage : Settings → List Piece → Stage
 topStage S [] = hashing
 topStage S (pc ∷ l) = firstStage S (pc .p) (pc .q)
-
--- the bits b put at place x
-abbrev pub paste : List Bool → ℕ → List Bool → List Bool
-paste str x b = take x str ++ (b ++ drop (x + length b) str)
 
 abbrev pub anyPiece : List Piece → Bool
 anyPiece [] = false
@@ -71,9 +68,9 @@ stageAfter S st (stays t) = t
 stageAfter S st (splits s r b) = topStage S st
 
 abbrev pub bitsAfter : Piece → List Bool → Effect → List Bool
-bitsAfter pc str (settles w b) = paste str (pc .x) b
+bitsAfter pc str (settles w b) = over str (pc .x) b
 bitsAfter pc str (stays t) = str
-bitsAfter pc str (splits s r b) = paste str (pc .x + s) b
+bitsAfter pc str (splits s r b) = over str (pc .x + s) b
 
 abbrev pub rowsAfter : Settings → Piece → Effect → List Row
 rowsAfter S pc (settles w b) = row (pc .x) (pc .p) w ∷ []
@@ -329,8 +326,8 @@ blank-add : (a b : ℕ) → blank (a + b) ≡ blank a ++ blank b
 blank-add zero b = rw (zero-add b) refl
 blank-add (suc a) b = let e : suc a + b ≡ suc (a + b) = omega arith in rw e (ap (λ (l : List Bool). false ∷ l) (blank-add a b))
 
-paste-at : (F B R b : List Bool) (x : ℕ) → length F ≡ x → length b ≡ length B → paste (F ++ (B ++ R)) x b ≡ F ++ (b ++ R)
-paste-at F B R b x e f =
+over-at : (F B R b : List Bool) (x : ℕ) → length F ≡ x → length b ≡ length B → over (F ++ (B ++ R)) x b ≡ F ++ (b ++ R)
+over-at F B R b x e f =
     let d : drop (x + length b) (F ++ (B ++ R)) ≡ R =
     ap (λ (n : ℕ). drop n (F ++ (B ++ R))) (let g : x + length b ≡ length F + length B = omega arith in g) ∙ drop-append-add F (B ++ R) (length B) ∙ drop-at B R (length B) refl in
     ap₂ (λ (u v : List Bool). u ++ (b ++ v)) (take-at F (B ++ R) x e) d
@@ -387,7 +384,7 @@ module _ (S : Settings) (L : Limits S) (p : ℕ) (ys : List Bool) (rest : List S
       ∙ rw (begin-norow S L (x + s + length b) (p - (s + S .m)) (drop (r + S .m) ys), a₄) refl
 
   bits-is : (F : List Bool) (e : Effect) → length F ≡ x → total span (made S p ys e) ≡ p → Cuts e → F ++ string (made S p ys e ++ rest) ≡ bitsAfter top (F ++ (blank p ++ string rest)) e
-  bits-is F (settles w b) f h c = sym (paste-at F (blank p) (string rest) b x f (let e = blank-length p in omega arith))
+  bits-is F (settles w b) f h c = sym (over-at F (blank p) (string rest) b x f (let e = blank-length p in omega arith))
   bits-is F (stays t) f h c = refl
   bits-is F (splits s r b) f h c =
       let k = p - (s + S .m) in
@@ -401,8 +398,8 @@ module _ (S : Settings) (L : Limits S) (p : ℕ) (ys : List Bool) (rest : List S
       ap blank (sym e) ∙ blank-add s (S .m + k) ∙ ap (λ (l : List Bool). blank s ++ l) (blank-add (S .m) k) in
       let same′ : F ++ (blank p ++ R) ≡ (F ++ blank s) ++ (blank (S .m) ++ (blank k ++ R)) = rw bp (simp append-assoc) in
       rw (begin-bits S s (take r ys), begin-bits S (p - (s + S .m)) (drop (r + S .m) ys))
-      (sym (ap (λ (l : List Bool). paste l (x + s) b) same′
-      ∙ paste-at (F ++ blank s) (blank (S .m)) (blank k ++ R) b (x + s) (omega arith) (omega arith)
+      (sym (ap (λ (l : List Bool). over l (x + s) b) same′
+      ∙ over-at (F ++ blank s) (blank (S .m)) (blank k ++ R) b (x + s) (omega arith) (omega arith)
       ∙ append-assoc F (blank s) (b ++ (blank k ++ R))))
 
 -- ---- one answer, on the run and on its state

@@ -7,7 +7,7 @@ use Prim.Native.Nat.{ℕ, suc, _+_, _-_, _*_, _/_, _%_, _^_, _≤_, _<_}
 use native.Mathlib.Nat.{zero-div, zero-add, mod-eq-of-lt}
 use native.Mathlib.Decide.{decLt, ℕ-discrete}
 use native.Mathlib.Omega.{arith}
-use lib.ListN.{length, getD, set, take, drop, length-replicate, getD-replicate, length-set, List·getD-eq-default}
+use lib.ListN.{length, getD, set, take, drop, length-append, length-drop, length-replicate, getD-replicate, length-set, List·getD-eq-default}
 use lib.Seq.{sets, sets-eq, length-sets, ext-getD, getD-set-same, getD-set-other, length-take-le}
 use lib.Dec.{eqb}
 use lib.Bits.{bitXor, xor-lt}
@@ -17,7 +17,7 @@ use Rattle.strings.specs.StringRule.{IsString}
 use Rattle.strings.specs.laws.StoreLaws.{sets-front}
 use Rattle.strings.specs.laws.BitLaws.{bit-front}
 use Rattle.strings.specs.laws.RangeLaws.{range-length, range-at}
-use Rattle.strings.specs.laws.WriteLaws.{length-writeBits, write-outside, write-inside, write-front, write-behind}
+use Rattle.strings.specs.laws.WriteLaws.{length-writeBits, write-outside, write-inside, over, range-write, write-front, write-behind}
 use Rattle.strings.specs.laws.RuleLaws.{low-digits, digit-is}
 
 -- every element is a byte, as of what a slice of u8 holds
@@ -46,6 +46,10 @@ zeros-bytes n i = let e = zero-at n i in omega arith
 pub length-pack : (l : List Bool) → length (pack l) ≡ bytesFor (length l)
 unfolding pack
 length-pack l = length-writeBits (zeroBytes (bytesFor (length l))) 0 l ∙ length-zeros (bytesFor (length l))
+
+pub pack-none : pack [] ≡ []
+unfolding pack writeBits
+pack-none = refl
 
 pub pack-bits : (l : List Bool) → range (pack l) 0 (length l) ≡ l
 unfolding pack
@@ -99,20 +103,62 @@ bytes-by-bits s t h k e f =
     let r : 7 - (8 * j + (7 - m)) % 8 ≡ m = omega arith in
     rw (q, r) at (f (8 * j + (7 - m)) (omega arith))))
 
--- two strings of the same bits are the same bytes
-pub string-by-bits : (s t : List ℕ) (n : ℕ) → Bytes s → Bytes t → IsString s n → IsString t n → range s 0 n ≡ range t 0 n → s ≡ t
-string-by-bits s t n h k g g′ e = bytes-by-bits s t h k (g .bytes ∙ sym (g′ .bytes)) (λ i l. go i (decLt i n))
+-- bytes that have the bits l, as few as can be, and zeros behind them are l packed
+pub packed-is : (s : List ℕ) (l : List Bool) → Bytes s → length s ≡ bytesFor (length l) → range s 0 (length l) ≡ l → ((i : ℕ) → length l ≤ i → bitAt s i ≡ false) → s ≡ pack l
+packed-is s l h n e z = bytes-by-bits s (pack l) h (pack-bytes l) (n ∙ sym (length-pack l)) (λ i k. go i (decLt i (length l)))
   where
-    go : (i : ℕ) → Dec (i < n) → bitAt s i ≡ bitAt t i
-    go i (yes m) = sym (range-at s 0 n i m ∙ ap (bitAt s) (zero-add i)) ∙ ap (λ (l : List Bool). getD l i false) e ∙ range-at t 0 n i m ∙ ap (bitAt t) (zero-add i)
-    go i (no m) = g .spare i (omega arith) ∙ sym (g′ .spare i (omega arith))
+    at : (t : List ℕ) (i : ℕ) → i < length l → range t 0 (length l) ≡ l → bitAt t i ≡ getD l i false
+    at t i m f = sym (range-at t 0 (length l) i m ∙ ap (bitAt t) (zero-add i)) ∙ ap (λ (k : List Bool). getD k i false) f
+
+    go : (i : ℕ) → Dec (i < length l) → bitAt s i ≡ bitAt (pack l) i
+    go i (yes m) = at s i m e ∙ sym (at (pack l) i m (pack-bits l))
+    go i (no m) = z i (omega arith) ∙ sym (pack-spare l i (omega arith))
 
 -- so a string is its own bits packed
 pub string-packed : (s : List ℕ) (n : ℕ) → Bytes s → IsString s n → s ≡ pack (range s 0 n)
 string-packed s n h g =
     let e = range-length s 0 n in
-    let g′ : IsString (pack (range s 0 n)) n = rw e at (pack-string (range s 0 n) (let f = g .few in omega arith)) in
-    string-by-bits s (pack (range s 0 n)) n h (pack-bytes (range s 0 n)) g g′ (sym ((rw e at (pack-bits (range s 0 n)))))
+    packed-is s (range s 0 n) h (rw e (g .bytes)) (ap (range s 0) e) (λ i k. g .spare i (omega arith))
+
+-- and two strings of the same bits are the same bytes
+pub string-by-bits : (s t : List ℕ) (n : ℕ) → Bytes s → Bytes t → IsString s n → IsString t n → range s 0 n ≡ range t 0 n → s ≡ t
+string-by-bits s t n h k g g′ e = string-packed s n h g ∙ ap pack e ∙ sym (string-packed t n k g′)
+
+-- zeros are packed zeros
+pub zeros-packed : (l : List Bool) → ((i : ℕ) → getD l i false ≡ false) → zeroBytes (bytesFor (length l)) ≡ pack l
+zeros-packed l z =
+    let s = zeroBytes (bytesFor (length l)) in
+    let r = range-length s 0 (length l) in
+    packed-is s l (zeros-bytes (bytesFor (length l))) (length-zeros (bytesFor (length l)))
+    (ext-getD false (range s 0 (length l)) l r (λ i k. range-at s 0 (length l) i (omega arith) ∙ zeros-bit (bytesFor (length l)) (0 + i) ∙ sym (z i)))
+    (λ i k. zeros-bit (bytesFor (length l)) i)
+
+-- ---- bits written into packed bits, which stand at the front of a lent buffer
+pub length-over : (l : List Bool) (x : ℕ) (b : List Bool) → x + length b ≤ length l → length (over l x b) ≡ length l
+length-over l x b h =
+    let a = length-append (take x l) (b ++ drop (x + length b) l) in
+    let c = length-append b (drop (x + length b) l) in
+    let t = length-take-le x l (omega arith) in
+    let d = length-drop (x + length b) l in
+    omega arith
+
+pub pack-write : (l : List Bool) (x : ℕ) (b : List Bool) → x + length b ≤ length l → writeBits (pack l) x b ≡ pack (over l x b)
+pack-write l x b h =
+    let n = length-over l x b h in
+    let p = length-pack l in
+    packed-is (writeBits (pack l) x b) (over l x b) (write-bytes (pack l) x b (pack-bytes l)) (length-writeBits (pack l) x b ∙ p ∙ ap bytesFor (sym n))
+    (ap (range (writeBits (pack l) x b) 0) n ∙ range-write (pack l) (length l) x b h (omega arith) ∙ ap (λ (k : List Bool). over k x b) (pack-bits l))
+    (λ i k. write-outside (pack l) x b i (omega arith) (inr (omega arith)) ∙ pack-spare l i (omega arith))
+
+pub front-write : (l : List Bool) (buf : List ℕ) (x : ℕ) (b : List Bool) → x + length b ≤ length l → writeBits (atFront (pack l) buf) x b ≡ atFront (pack (over l x b)) buf
+front-write l buf x b h =
+    let p = length-pack l in
+    let n : length (pack (over l x b)) ≡ length (pack l) = length-pack (over l x b) ∙ ap bytesFor (length-over l x b h) ∙ sym p in
+    write-front (pack l) (drop (length (pack l)) buf) x b (omega arith)
+    ∙ ap₂ (λ (m : List ℕ) (k : ℕ). m ++ drop k buf) (pack-write l x b h) (sym n)
+
+pub front-length : (m buf : List ℕ) → length m ≤ length buf → length (atFront m buf) ≡ length buf
+front-length m buf h = let a = length-append m (drop (length m) buf) in let d = length-drop (length m) buf in omega arith
 
 -- ---- bits written over cleared bytes are the packed bits, and the bytes around stay
 sets-at : (vs buf : List ℕ) (at n : ℕ) → length vs ≡ n → at + n ≤ length buf → sets buf at vs ≡ take at buf ++ (vs ++ drop (at + n) buf)
@@ -155,3 +201,8 @@ pub cleared-bit : (s : List ℕ) (k i : ℕ) → k ≤ length s → i < 8 * k �
 cleared-bit s k i h l =
     let z = length-zeros k in
     ap (λ (t : List ℕ). bitAt t i) (cleared-first s k h) ∙ bit-front (zeroBytes k) (drop k s) i (omega arith) ∙ zeros-bit k i
+
+-- a buffer's first bytes cleared are packed zeros at its front
+pub front-cleared : (l : List Bool) (buf : List ℕ) → ((i : ℕ) → getD l i false ≡ false) → bytesFor (length l) ≤ length buf → cleared buf 0 (bytesFor (length l)) ≡ atFront (pack l) buf
+front-cleared l buf z h =
+    cleared-first buf (bytesFor (length l)) h ∙ ap₂ (λ (m : List ℕ) (k : ℕ). m ++ drop k buf) (zeros-packed l z) (sym (length-pack l))

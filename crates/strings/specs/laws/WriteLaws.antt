@@ -53,9 +53,12 @@ range-before s a l x n h o = range-same (writeBits s a l) s x n (λ j p q. write
 pub range-after : (s : List ℕ) (a : ℕ) (l : List Bool) (x n : ℕ) → a + length l ≤ 8 * length s → a + length l ≤ x → range (writeBits s a l) x n ≡ range s x n
 range-after s a l x n h o = range-same (writeBits s a l) s x n (λ j p q. write-outside s a l j h (inr (omega arith)))
 
+-- bits l with the bits b written over them from place x on
+abbrev pub over : List Bool → ℕ → List Bool → List Bool
+over l x b = take x l ++ (b ++ drop (x + length b) l)
+
 -- a range that a write falls into
-pub range-write : (s : List ℕ) (n x : ℕ) (b : List Bool) → x + length b ≤ n → n ≤ 8 * length s
-    → range (writeBits s x b) 0 n ≡ take x (range s 0 n) ++ (b ++ drop (x + length b) (range s 0 n))
+pub range-write : (s : List ℕ) (n x : ℕ) (b : List Bool) → x + length b ≤ n → n ≤ 8 * length s → range (writeBits s x b) 0 n ≡ over (range s 0 n) x b
 range-write s n x b h k =
     let t = writeBits s x b in
     let m = n - (x + length b) in
