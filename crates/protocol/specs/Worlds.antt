@@ -3,7 +3,7 @@ use mathlib.Core.Path.{_≡_}
 use mathlib.Core.Bool.{Bool, true}
 use mathlib.Core.Logic.{_⊎_}
 use mathlib.Core.List.{List, [], _∷_, _++_}
-use mathlib.Core.Option.{none, some}
+use mathlib.Core.Option.{Option, none, some}
 use Prim.Native.Nat.{ℕ, _+_, _*_, _/_, max, _≤_}
 use lib.ListN.{length}
 use Rattle.messages.specs.Answers.{Answer, answerBytes}
@@ -14,7 +14,7 @@ use Rattle.protocol.specs.Anchors.{part}
 use Rattle.protocol.specs.Claims.{isWait, At, Finished, Settled, total, rowsAtFront, zeroed}
 use Rattle.protocol.specs.HolderCall.{Heard, declines, freshHolder, holderCall, replies}
 use Rattle.protocol.specs.RebuilderCall.{Rooms, Step, Taken, rebuilderCall, rebuilderStart, refuses, sheetAfter, starts, stringAfter, takes, writtenQuestion}
-use Rattle.protocol.specs.Runs.{Honest, copies, piecesOf, question, run, sheetOf, string, told, full}
+use Rattle.protocol.specs.Runs.{Honest, Run, copies, piecesOf, question, run, sheetOf, string, told, full}
 use Rattle.protocol.specs.Segments.{asks, settled, waiting}
 use Rattle.protocol.specs.declared.Holder.{Holder}
 use Rattle.protocol.specs.declared.How.{How}
@@ -76,13 +76,17 @@ abbrev pub bitsOfY : Lent → List Bool
 bitsOfY c = range (c .y) 0 (c .ybits)
 
 -- "The holder's answer to it is the message that "Messages" gives for X under the opening that the rebuilder wrote"
-abbrev pub AnswerTo : Lent → (question m : List ℕ) → Type 0
-AnswerTo c w m = (q : Question) × (readQuestion w (c .xbits) ≡ Asked q) × (m ≡ answerBytes (told (c .settings) (bitsOfX c) q))
+abbrev pub answerTo : Lent → Question → List ℕ
+answerTo c q = answerBytes (told (c .settings) (bitsOfX c) q)
+
+-- m is the holder's answer to the question with the bytes w
+abbrev pub IsAnswer : Lent → (w m : List ℕ) → Type 0
+IsAnswer c w m = (q : Question) × (readQuestion w (c .xbits) ≡ Asked q) × (m ≡ answerTo c q)
 
 -- "Lists in which the rebuilder takes any other message are left out"
 abbrev pub FairCall : Lent → World → Call → Type 0
 FairCall c (world H r bs sh q hs ts) (toHolder m) = Unit {0}
-FairCall c (world H r bs sh q hs ts) (toRebuilder m) = (s : Step) (q′ : List ℕ) → rebuilderCall r (c .y) (c .ybits) m (roomsOf c bs sh) ≡ takes s q′ → AnswerTo c q m
+FairCall c (world H r bs sh q hs ts) (toRebuilder m) = (s : Step) (q′ : List ℕ) → rebuilderCall r (c .y) (c .ybits) m (roomsOf c bs sh) ≡ takes s q′ → IsAnswer c q m
 
 abbrev pub Fair : Lent → World → List Call → Type 0
 Fair c w [] = Unit {0}
@@ -114,19 +118,26 @@ pub record OnceEach (S : Settings) (Y : List Bool) (l : List Answer) (hs : List 
   pub many : length hs ≡ length l
   pub each : (m : List ℕ) → Member m hs → (q : Question) × Earlier S Y l q × (m ≡ questionBytes q)
 
+-- the run that the answers taken make of n, Y and the settings, and its question
+abbrev pub runOf : Lent → List Answer → Run
+runOf c l = run (c .settings) (bitsOfY c) l
+
+abbrev pub asked : Lent → List Answer → Option Question
+asked c l = question (c .settings) (runOf c l)
+
 -- Demand 3 of a world; bs₀ and sh₀ are string buffer and sheet as first lent, l the answers that the rebuilder took, the last one first
 pub record Demand3 (c : Lent) (bs₀ : List ℕ) (sh₀ : List Row) (H : Holder) (r : Rebuilder) (bs : List ℕ) (sh : List Row) (waiting : List ℕ) (hs ts : List (List ℕ)) (l : List Answer) : Type 0 where
   -- the messages that the rebuilder took are these answers, each the holder's
   pub messages : ts ≡ sent l
   pub honest : Honest (c .settings) (bitsOfX c) (bitsOfY c) l
   -- the question waiting is the one that 01's steps give from n, Y, the settings and the answers taken; after the finish none waits
-  pub asks : waiting ≡ writtenQuestion (question (c .settings) (run (c .settings) (bitsOfY c) l))
+  pub asks : waiting ≡ writtenQuestion (asked c l)
   -- the holder's answer to it is not refused by the rebuilder
-  pub accepts : (q : Question) → question (c .settings) (run (c .settings) (bitsOfY c) l) ≡ some q
-      → (s : Step) × (q′ : List ℕ) × (rebuilderCall r (c .y) (c .ybits) (answerBytes (told (c .settings) (bitsOfX c) q)) (roomsOf c bs sh) ≡ takes s q′)
+  pub accepts : (q : Question) → asked c l ≡ some q
+      → (s : Step) × (q′ : List ℕ) × (rebuilderCall r (c .y) (c .ybits) (answerTo c q) (roomsOf c bs sh) ≡ takes s q′)
   -- "A holder that had taken each earlier question once and nothing else replies exactly this"
-  pub replied : (q : Question) → question (c .settings) (run (c .settings) (bitsOfY c) l) ≡ some q → OnceEach (c .settings) (bitsOfY c) l hs
-      → (H′ : Holder) × (holderCall H (c .x) (c .xbits) (questionBytes q) (c .replyRoom) ≡ replies H′ (answerBytes (told (c .settings) (bitsOfX c) q)))
+  pub replied : (q : Question) → asked c l ≡ some q → OnceEach (c .settings) (bitsOfY c) l hs
+      → (H′ : Holder) × (holderCall H (c .x) (c .xbits) (questionBytes q) (c .replyRoom) ≡ replies H′ (answerTo c q))
   -- questions answered: the answers taken, the opening's among them
   pub answered : r .answered ≡ length ts
   pub questions : length ts ≤ 10 * (c .xbits / c .settings .m) + 6
@@ -134,19 +145,19 @@ pub record Demand3 (c : Lent) (bs₀ : List ℕ) (sh₀ : List Row) (H : Holder)
   pub counted : r .counted ≡ countedBytes ts
   pub bytes : countedBytes ts ≤ c .settings .ceiling + full (c .xbits) + max 9 (full (c .xbits))
   -- "At most 32 pieces ever wait"
-  pub few : total isWait (piecesOf (run (c .settings) (bitsOfY c) l)) ≤ 32
+  pub few : total isWait (piecesOf (runOf c l)) ≤ 32
   -- the string buffer: the settled pieces' bits and zeros for what waits, packed at its front; later bytes keep what they had
-  pub string : bs ≡ atFront (pack (string (piecesOf (run (c .settings) (bitsOfY c) l)))) bs₀
+  pub string : bs ≡ atFront (pack (string (piecesOf (runOf c l)))) bs₀
   -- the sheet: the settled pieces' rows in order of settling at its front; zeros in those that the whole string's row replaced; unused rows keep what they had
-  pub sheet : sh ≡ rowsAtFront (sheetOf (run (c .settings) (bitsOfY c) l)) (zeroed (c .settings) (bitsOfY c) l) sh₀
-  pub used : r .rows ≡ length (sheetOf (run (c .settings) (bitsOfY c) l))
-  pub rows : length (sheetOf (run (c .settings) (bitsOfY c) l)) ≤ 2 * (c .xbits / c .settings .m) + 1
+  pub sheet : sh ≡ rowsAtFront (sheetOf (runOf c l)) (zeroed (c .settings) (bitsOfY c) l) sh₀
+  pub used : r .rows ≡ length (sheetOf (runOf c l))
+  pub rows : length (sheetOf (runOf c l)) ≤ 2 * (c .xbits / c .settings .m) + 1
   -- the copies of the pieces are together Y
-  pub copied : (piecesOf (run (c .settings) (bitsOfY c) l) ≡ []) ⊎ (copies (piecesOf (run (c .settings) (bitsOfY c) l)) ≡ bitsOfY c)
+  pub copied : (piecesOf (runOf c l) ≡ []) ⊎ (copies (piecesOf (runOf c l)) ≡ bitsOfY c)
   -- a settled piece has X's length, X's bits or X's hash (and syndrome), and X's bits where its copy is X's piece unchanged, with one bit lost or with one bit added
-  pub settled : (x : ℕ) (w : How) (ys b : List Bool) → At 0 (piecesOf (run (c .settings) (bitsOfY c) l)) x (settled w ys b) → Settled (c .settings) (part (bitsOfX c) x (length b)) w ys b
+  pub settled : (x : ℕ) (w : How) (ys b : List Bool) → At 0 (piecesOf (runOf c l)) x (settled w ys b) → Settled (c .settings) (part (bitsOfX c) x (length b)) w ys b
   -- at the finish each bit is X's, or lies in a settled piece whose bits differ from X's though length and hash agree; the rows cover each bit of X exactly once
-  pub finish : question (c .settings) (run (c .settings) (bitsOfY c) l) ≡ none → Finished (c .settings) (bitsOfX c) (run (c .settings) (bitsOfY c) l) × (r .n ≡ c .xbits)
+  pub finish : asked c l ≡ none → Finished (c .settings) (bitsOfX c) (runOf c l) × (r .n ≡ c .xbits)
 
 -- X and Y keep the string rule, the start was not turned down, and all buffers are long enough
 pub record Supposed (c : Lent) (r : Rebuilder) (q : List ℕ) (bs : List ℕ) (sh : List Row) : Type 0 where

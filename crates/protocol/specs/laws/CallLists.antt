@@ -39,7 +39,7 @@ use Rattle.protocol.specs.laws.Standing.{Stands}
 use Rattle.protocol.specs.States.{planned}
 use Rattle.protocol.specs.laws.Steps.{RoomFor, phase-none, phase-one, phase-two, stands-step}
 use Rattle.protocol.specs.laws.Store.{Tidy, asks-same, atOpening, atPieces, atWhole, keeps-pace, storeOf}
-use Rattle.protocol.specs.Worlds.{AnswerTo, Call, Delivered, Earlier, Fair, FairCall, Lent, Member, OnceEach, Supposed, World, afterHeard, afterTaken, bitsOfX, bitsOfY, countedBytes, firstWorld, roomsOf, sent, stepWorld, toHolder, toRebuilder, world, worldAfter}
+use Rattle.protocol.specs.Worlds.{IsAnswer, Call, Delivered, Earlier, Fair, FairCall, Lent, Member, OnceEach, Supposed, World, afterHeard, afterTaken, bitsOfX, bitsOfY, countedBytes, firstWorld, roomsOf, sent, stepWorld, toHolder, toRebuilder, world, worldAfter}
 use Rattle.protocol.specs.declared.Holder.{Holder}
 use Rattle.protocol.specs.declared.Rebuilder.{Rebuilder}
 use Rattle.protocol.specs.declared.Row.{Row}
@@ -319,7 +319,7 @@ module _ (c : Lent) (r₀ : Rebuilder) (q₀ : List ℕ) (bs₀ : List ℕ) (sh�
   Known (world H r bs sh w hs ts) = (l : List Answer) × Rep r bs sh w l × (ts ≡ sent l) × HolderIs H hs
 
   -- a fair message is the answer to the run's question
-  fair-is : (w m : List ℕ) (l : List Answer) → Honest S X Y l → w ≡ writtenQuestion (question S (run S Y l)) → AnswerTo c w m
+  fair-is : (w m : List ℕ) (l : List Answer) → Honest S X Y l → w ≡ writtenQuestion (question S (run S Y l)) → IsAnswer c w m
       → (q : Question) × (question S (run S Y l) ≡ some q) × (m ≡ answerBytes (told S X q))
   fair-is w m l h e f = go (question S (run S Y l)) refl
     where
@@ -334,7 +334,7 @@ module _ (c : Lent) (r₀ : Rebuilder) (q₀ : List ℕ) (bs₀ : List ℕ) (sh�
           (q, k, f .2 ∙ ap (λ (u : Question). answerBytes (told S X u)) d)
 
   rebuilder-known : (H : Holder) (r : Rebuilder) (bs : List ℕ) (sh : List Row) (w : List ℕ) (hs ts : List (List ℕ)) (m : List ℕ) → Known (world H r bs sh w hs ts)
-      → ((s : Step) (q′ : List ℕ) → rebuilderCall r (c .y) (c .ybits) m (roomsOf c bs sh) ≡ takes s q′ → AnswerTo c w m)
+      → ((s : Step) (q′ : List ℕ) → rebuilderCall r (c .y) (c .ybits) m (roomsOf c bs sh) ≡ takes s q′ → IsAnswer c w m)
       → Known (afterTaken (world H r bs sh w hs ts) m (rebuilderCall r (c .y) (c .ybits) m (roomsOf c bs sh)))
   rebuilder-known H r bs sh w hs ts m k f = go (rebuilderCall r (c .y) (c .ybits) m (roomsOf c bs sh)) refl
     where

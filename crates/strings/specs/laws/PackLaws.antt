@@ -15,7 +15,6 @@ use lib.Pow.{pow-lt}
 use Rattle.strings.specs.Bits.{bitAt, range, bytesFor, flipped, setBit, differs, writeBits, zeroBytes, pack, cleared, atFront}
 use Rattle.strings.specs.StringRule.{IsString}
 use Rattle.strings.specs.laws.StoreLaws.{sets-front}
-use Rattle.strings.specs.laws.BitLaws.{bit-front}
 use Rattle.strings.specs.laws.RangeLaws.{range-length, range-at}
 use Rattle.strings.specs.laws.WriteLaws.{length-writeBits, write-outside, write-inside, over, range-write, write-front, write-behind}
 use Rattle.strings.specs.laws.RuleLaws.{low-digits, digit-is}
@@ -157,9 +156,6 @@ front-write l buf x b h =
     write-front (pack l) (drop (length (pack l)) buf) x b (omega arith)
     ∙ ap₂ (λ (m : List ℕ) (k : ℕ). m ++ drop k buf) (pack-write l x b h) (sym n)
 
-pub front-length : (m buf : List ℕ) → length m ≤ length buf → length (atFront m buf) ≡ length buf
-front-length m buf h = let a = length-append m (drop (length m) buf) in let d = length-drop (length m) buf in omega arith
-
 -- ---- bits written over cleared bytes are the packed bits, and the bytes around stay
 sets-at : (vs buf : List ℕ) (at n : ℕ) → length vs ≡ n → at + n ≤ length buf → sets buf at vs ≡ take at buf ++ (vs ++ drop (at + n) buf)
 sets-at vs buf at n e h =
@@ -196,11 +192,6 @@ cleared-first s k h = sets-at (zeroBytes k) s 0 k (length-zeros k) (omega arith)
 pub length-cleared : (s : List ℕ) (at k : ℕ) → length (cleared s at k) ≡ length s
 unfolding cleared
 length-cleared s at k = length-sets s at (zeroBytes k)
-
-pub cleared-bit : (s : List ℕ) (k i : ℕ) → k ≤ length s → i < 8 * k → bitAt (cleared s 0 k) i ≡ false
-cleared-bit s k i h l =
-    let z = length-zeros k in
-    ap (λ (t : List ℕ). bitAt t i) (cleared-first s k h) ∙ bit-front (zeroBytes k) (drop k s) i (omega arith) ∙ zeros-bit k i
 
 -- a buffer's first bytes cleared are packed zeros at its front
 pub front-cleared : (l : List Bool) (buf : List ℕ) → ((i : ℕ) → getD l i false ≡ false) → bytesFor (length l) ≤ length buf → cleared buf 0 (bytesFor (length l)) ≡ atFront (pack l) buf
