@@ -47,7 +47,7 @@ pub use ffi::Library;
 #[cfg(feature = "model-only")]
 pub use model::Model as Library;
 pub use refusal::Refusal;
-pub use synchroniser::{Holder, How, Rebuilder, Row, Settings, Sheet};
+pub use synchroniser::{Holder, How, Rebuilder, Row, Saved, Settings, Sheet};
 
 /// The most bits that a string has.
 pub const MAX_BITS: usize = 65_536;

@@ -118,6 +118,19 @@ impl fmt::Debug for Holder {
     }
 }
 
+/// What a host keeps of a [`Rebuilder`], beside the copy, to go on with its run later.
+#[derive(Clone, Debug, PartialEq, Eq)]
+pub struct Saved {
+    /// The state's bytes.
+    pub state: [u8; REBUILDER_BYTES],
+    /// The string's bytes as far as it is rebuilt.
+    pub string: Vec<u8>,
+    /// The sheet's bytes.
+    pub sheet: Vec<u8>,
+    /// The question that waits; empty when finished.
+    pub question: Vec<u8>,
+}
+
 /// The end that has the copy Y and rebuilds X.
 #[derive(Clone, PartialEq, Eq)]
 pub struct Rebuilder {
@@ -155,6 +168,61 @@ impl Rebuilder {
             sheet: vec![0; ROW_BYTES * rows],
             question,
             question_length: length as usize,
+        })
+    }
+
+    /// What has to be kept to go on with the run later.
+    ///
+    /// ```
+    /// use lunetteorris::{BitString, Holder, Rebuilder, Settings};
+    ///
+    /// let y: BitString = "1011".parse()?;
+    /// let mut holder = Holder::new("10110".parse()?);
+    /// let mut rebuilder = Rebuilder::start(Settings::house(), y.clone())?;
+    /// rebuilder.take(&holder.answer(rebuilder.question().unwrap())?)?;
+    ///
+    /// let saved = rebuilder.save(); // kept over a restart of the host
+    /// let mut rebuilder = Rebuilder::resume(y, saved)?;
+    /// rebuilder.take(&holder.answer(rebuilder.question().unwrap())?)?;
+    /// assert_eq!(rebuilder.string().to_string(), "10110");
+    /// # Ok::<(), lunetteorris::Refusal>(())
+    /// ```
+    pub fn save(&self) -> Saved {
+        Saved {
+            state: self.state,
+            string: self.string.clone(),
+            sheet: self.sheet.clone(),
+            question: self.question[..self.question_length].to_vec(),
+        }
+    }
+
+    /// Goes on with a saved run of `y`. Refusals of what was not saved so: 2 for a string that
+    /// breaks the string rule, 8 for a question or a row that no run has, 9 for a string or sheet
+    /// shorter than the state says. An unsound state, and a `y` of another bit count, are found by
+    /// the next call.
+    pub fn resume(y: BitString, saved: Saved) -> Result<Rebuilder, Refusal> {
+        let question_length = saved.question.len();
+        let mut question = [0; QUESTION_BYTES];
+        question
+            .get_mut(..question_length)
+            .ok_or(Refusal::OutOfRange)?
+            .copy_from_slice(&saved.question);
+        let bits = field(&saved.state, 28) as usize;
+        let string = saved.string.get(..bits.div_ceil(8));
+        BitString::from_bytes(string.ok_or(Refusal::BufferTooShort)?.to_vec(), bits)?;
+        let rows = field(&saved.state, 40) as usize;
+        let used = saved.sheet.get(..rows.saturating_mul(ROW_BYTES));
+        let mut used = used.ok_or(Refusal::BufferTooShort)?.chunks(ROW_BYTES);
+        if used.any(|row| How::from_number(field(row, 8)).is_none()) {
+            return Err(Refusal::OutOfRange);
+        }
+        Ok(Rebuilder {
+            y,
+            state: saved.state,
+            string: saved.string,
+            sheet: saved.sheet,
+            question,
+            question_length,
         })
     }
 

@@ -5,7 +5,7 @@ mod common;
 use common::*;
 use lunetteorris::{
     find_anchor, hash, pack, repair, syndrome, unpack, BitString, Holder, How, Rebuilder, Refusal,
-    Row, Settings, MAX_BITS,
+    Row, Saved, Settings, MAX_BITS,
 };
 
 fn synchronised(settings: Settings, x: &BitString, y: &BitString) -> Rebuilder {
@@ -203,4 +203,63 @@ fn a_refused_answer_changes_nothing() {
     rebuilder.take(&answer).unwrap();
     assert_eq!(rebuilder.string(), x);
     assert_eq!(rebuilder.take(&answer), Err(Refusal::OutOfTurn));
+}
+
+/// A run that is saved and taken up again before every answer is the same run.
+#[test]
+fn saved_runs() {
+    let random = &mut Random::new(51);
+    let x = random_bits(random, 3_000);
+    let y = copy_of(random, &x, CHANGES[CHANGES.len() - 1], MAX_BITS);
+    let (x, y) = (packed(&x), packed(&y));
+    let whole = synchronised(Settings::house(), &x, &y);
+    let mut holder = Holder::new(x);
+    let mut rebuilder = Rebuilder::start(Settings::house(), y.clone()).unwrap();
+    while let Some(question) = rebuilder.question() {
+        let answer = holder.answer(question).unwrap();
+        let saved = rebuilder.save();
+        rebuilder = Rebuilder::resume(y.clone(), saved.clone()).unwrap();
+        assert!(rebuilder.save() == saved);
+        rebuilder.take(&answer).unwrap();
+    }
+    assert!(rebuilder == whole);
+    assert!(Rebuilder::resume(y, rebuilder.save()).unwrap().finished());
+}
+
+#[test]
+fn what_was_not_saved_is_refused() {
+    let x: BitString = "1011".parse().unwrap();
+    let y: BitString = "101".parse().unwrap();
+    let saved = synchronised(Settings::house(), &x, &y).save();
+    let resumed = |change: fn(&mut Saved)| {
+        let mut saved = saved.clone();
+        change(&mut saved);
+        Rebuilder::resume(y.clone(), saved).err()
+    };
+    assert_eq!(resumed(|_| ()), None);
+    assert_eq!(
+        resumed(|saved| saved.question = vec![0; 9]),
+        Some(Refusal::OutOfRange)
+    );
+    assert_eq!(
+        resumed(|saved| saved.string.clear()),
+        Some(Refusal::BufferTooShort)
+    );
+    assert_eq!(
+        resumed(|saved| saved.string[0] |= 1),
+        Some(Refusal::BadString)
+    );
+    assert_eq!(
+        resumed(|saved| saved.sheet.truncate(11)),
+        Some(Refusal::BufferTooShort)
+    );
+    assert_eq!(
+        resumed(|saved| saved.sheet[8] = 6),
+        Some(Refusal::OutOfRange)
+    );
+    // An unsound state is found by the next call.
+    let mut unsound = saved.clone();
+    unsound.state[24] = 9;
+    let mut rebuilder = Rebuilder::resume(y.clone(), unsound).unwrap();
+    assert_eq!(rebuilder.take(&[0, 4]), Err(Refusal::OutOfTurn));
 }
