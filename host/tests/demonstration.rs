@@ -43,7 +43,7 @@ fn stored_runs() {
         .filter(|path| path.extension().is_some_and(|end| end == "in"))
         .collect();
     inputs.sort();
-    assert!(inputs.len() >= 42, "{} stored runs", inputs.len());
+    assert!(inputs.len() >= 46, "{} stored runs", inputs.len());
     for input in inputs {
         let stored = fs::read_to_string(input.with_extension("out")).expect("the stored output");
         assert_eq!(printed(&input), stored, "{}", input.display());

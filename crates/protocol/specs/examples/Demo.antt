@@ -1,4 +1,4 @@
--- 01, "The demonstration run": runs of both ends on bytes, computed on the definitions of the calls.
+-- 01, "The demonstration run": runs of both ends on bytes, computed on the definitions of the calls. Further runs are stored in data/runs.
 use mathlib.Core.Path.{_≡_, refl}
 use mathlib.Core.Bool.{Bool, true, false}
 use mathlib.Core.List.{List, [], _∷_, _++_, map}
@@ -77,376 +77,101 @@ demonstration S x xbits y ybits =
 abbrev upTo : ℕ → Settings
 upTo c = record { m = 8; h = 8; k = 1; key = 1; ceiling = c }
 
--- the longer strings, by their bit counts
+-- 64 bits, and a copy of 66 bits that agrees with them from bit 20 to bit 50
 abbrev x64 : List ℕ
 x64 = 0x33 ∷ 0x38 ∷ 0x85 ∷ 0xfa ∷ 0x2f ∷ 0xea ∷ 0x99 ∷ 0xa9 ∷ []
 
 abbrev y66 : List ℕ
 y66 = 0x36 ∷ 0x71 ∷ 0x15 ∷ 0xfa ∷ 0x2f ∷ 0xea ∷ 0x8c ∷ 0xd4 ∷ 0xc0 ∷ []
 
-abbrev x160 : List ℕ
-x160 = 0xe4 ∷ 0xc6 ∷ 0x01 ∷ 0xcc ∷ 0xed ∷ 0x16 ∷ 0x07 ∷ 0x9b ∷ 0x40 ∷ 0xc9 ∷ 0xb3 ∷ 0x10 ∷ 0xdc ∷ 0x0e ∷ 0xa4 ∷ 0x1a ∷ 0x17 ∷ 0xc2 ∷ 0x87 ∷ 0x0c ∷ []
-
-abbrev y160 : List ℕ
-y160 = 0xe4 ∷ 0xc6 ∷ 0x03 ∷ 0x99 ∷ 0xda ∷ 0x2c ∷ 0x0f ∷ 0x3d ∷ 0x03 ∷ 0x26 ∷ 0xcc ∷ 0x43 ∷ 0x78 ∷ 0x1d ∷ 0x48 ∷ 0x34 ∷ 0x17 ∷ 0xc2 ∷ 0x85 ∷ 0x0c ∷ []
-
-abbrev x300 : List ℕ
-x300 = 0xd0 ∷ 0xd0 ∷ 0xd1 ∷ 0x00 ∷ 0xc3 ∷ 0x65 ∷ 0xaf ∷ 0xb2 ∷ 0xdd ∷ 0x07 ∷ 0xda ∷ 0x6d ∷ 0xc6 ∷ 0x27 ∷ 0x8c ∷ 0x4c ∷ 0xd7 ∷ 0xf9 ∷ 0x67 ∷ 0x5f ∷ 0xcf ∷ 0xff ∷ 0x71 ∷ 0xd7 ∷ 0x10 ∷ 0x82 ∷ 0x9e ∷ 0x2f ∷ 0x57 ∷ 0xbc ∷ 0xc5 ∷ 0x5e ∷ 0xfb ∷ 0xef ∷ 0x4a ∷ 0x5a ∷ 0x6f ∷ 0x10 ∷ []
-
-abbrev y298 : List ℕ
-y298 = 0xd0 ∷ 0xd0 ∷ 0xd1 ∷ 0x00 ∷ 0xc3 ∷ 0x96 ∷ 0xbe ∷ 0xcb ∷ 0x74 ∷ 0x1f ∷ 0x69 ∷ 0xb7 ∷ 0x18 ∷ 0x9e ∷ 0x31 ∷ 0x33 ∷ 0x5f ∷ 0xe5 ∷ 0x9a ∷ 0xfe ∷ 0x7f ∷ 0xfb ∷ 0x8e ∷ 0xb8 ∷ 0x84 ∷ 0x14 ∷ 0xf1 ∷ 0x7a ∷ 0xbd ∷ 0xe6 ∷ 0x2a ∷ 0xdb ∷ 0xef ∷ 0xbd ∷ 0x29 ∷ 0x69 ∷ 0xbc ∷ 0x40 ∷ []
-
--- 01's own, as lent; a row that nobody may touch; and calls, the last one first
+-- 01's example as lent, its opening, calls on it, the last one first, and a row that nobody may touch
 abbrev exampleLent : Lent
 exampleLent = record { settings = upTo 100; x = 0xb0 ∷ []; xbits = 4; y = 0xa0 ∷ []; ybits = 3; replyRoom = 4; questionRoom = 8 }
 
-abbrev nines : Row
-nines = record { start = 9; len = 9; how = 9 }
+abbrev opening : List ℕ
+opening = 0x00 ∷ 0x01 ∷ 0x08 ∷ 0x01 ∷ []
 
 abbrev exampleCalls : List Call
 exampleCalls =
     toRebuilder (0x02 ∷ 0x03 ∷ 0xab ∷ 0x01 ∷ [])
     ∷ toRebuilder (0x02 ∷ 0x03 ∷ 0xab ∷ [])
     ∷ toHolder (0x02 ∷ 0x00 ∷ 0x04 ∷ [])
-    ∷ toHolder (0x00 ∷ 0x01 ∷ 0x08 ∷ 0x01 ∷ [])
+    ∷ toHolder opening
     ∷ toRebuilder (0x00 ∷ 0x04 ∷ [])
-    ∷ toHolder (0x00 ∷ 0x01 ∷ 0x08 ∷ 0x01 ∷ [])
+    ∷ toHolder opening
     ∷ []
+
+abbrev nines : Row
+nines = record { start = 9; len = 9; how = 9 }
 
 pub record Demo : Type 0 where
   -- 01's own: `8 8 1 1 100`, `1011`, `101`
   pub example : demonstration (upTo 100) (0xb0 ∷ []) 4 (0xa0 ∷ []) 3
-      ≡ asks (0x00 ∷ 0x01 ∷ 0x08 ∷ 0x01 ∷ [])
-      ∷ answers (0x00 ∷ 0x04 ∷ [])
-      ∷ asks (0x02 ∷ 0x00 ∷ 0x04 ∷ [])
-      ∷ answers (0x02 ∷ 0x03 ∷ 0xab ∷ 0x01 ∷ [])
-      ∷ row 0 4 2
-      ∷ rebuilt (true ∷ false ∷ true ∷ true ∷ []) 1 4
-      ∷ []
+      ≡ asks opening ∷ answers (0x00 ∷ 0x04 ∷ [])
+      ∷ asks (0x02 ∷ 0x00 ∷ 0x04 ∷ []) ∷ answers (0x02 ∷ 0x03 ∷ 0xab ∷ 0x01 ∷ [])
+      ∷ row 0 4 2 ∷ rebuilt (true ∷ false ∷ true ∷ true ∷ []) 1 4 ∷ []
+  -- the same under the house settings: h 16
+  pub house : demonstration houseSettings (0xb0 ∷ []) 4 (0xa0 ∷ []) 3
+      ≡ asks (0x00 ∷ 0x01 ∷ 0x10 ∷ 0x01 ∷ []) ∷ answers (0x00 ∷ 0x04 ∷ [])
+      ∷ asks (0x02 ∷ 0x00 ∷ 0x04 ∷ []) ∷ answers (0x02 ∷ 0x03 ∷ 0xab ∷ 0x23 ∷ [])
+      ∷ row 0 4 2 ∷ rebuilt (true ∷ false ∷ true ∷ true ∷ []) 1 4 ∷ []
   -- n = 0: nothing waits, no row; Y is of no account
   pub empty : demonstration (upTo 100) [] 0 (0xb0 ∷ []) 4
-      ≡ asks (0x00 ∷ 0x01 ∷ 0x08 ∷ 0x01 ∷ [])
-      ∷ answers (0x00 ∷ 0x00 ∷ [])
-      ∷ rebuilt [] 0 0
-      ∷ []
-  -- Y empty, p 4: neither q = p nor one apart, so bits
-  pub from-empty : demonstration (upTo 100) (0xb0 ∷ []) 4 [] 0
-      ≡ asks (0x00 ∷ 0x01 ∷ 0x08 ∷ 0x01 ∷ [])
-      ∷ answers (0x00 ∷ 0x04 ∷ [])
-      ∷ asks (0x03 ∷ 0x00 ∷ 0x04 ∷ [])
-      ∷ answers (0x03 ∷ 0xb0 ∷ [])
-      ∷ row 0 4 5
-      ∷ rebuilt (true ∷ false ∷ true ∷ true ∷ []) 1 2
-      ∷ []
-  -- q = p and equal hashes: one row, by hash
-  pub equal : demonstration (upTo 100) (0xb0 ∷ []) 4 (0xb0 ∷ []) 4
-      ≡ asks (0x00 ∷ 0x01 ∷ 0x08 ∷ 0x01 ∷ [])
-      ∷ answers (0x00 ∷ 0x04 ∷ [])
-      ∷ asks (0x01 ∷ 0x00 ∷ 0x04 ∷ [])
-      ∷ answers (0x01 ∷ 0xab ∷ 0x01 ∷ [])
-      ∷ row 0 4 1
-      ∷ rebuilt (true ∷ false ∷ true ∷ true ∷ []) 1 3
-      ∷ []
-  -- q = p, one bit changed: the hashes differ, so bits for the whole piece, p being under 4(m + h)
-  pub changed : demonstration (upTo 100) (0xb0 ∷ []) 4 (0x90 ∷ []) 4
-      ≡ asks (0x00 ∷ 0x01 ∷ 0x08 ∷ 0x01 ∷ [])
-      ∷ answers (0x00 ∷ 0x04 ∷ [])
-      ∷ asks (0x01 ∷ 0x00 ∷ 0x04 ∷ [])
-      ∷ answers (0x01 ∷ 0xab ∷ 0x01 ∷ [])
-      ∷ asks (0x03 ∷ 0x00 ∷ 0x04 ∷ [])
-      ∷ answers (0x03 ∷ 0xb0 ∷ [])
-      ∷ row 0 4 5
-      ∷ rebuilt (true ∷ false ∷ true ∷ true ∷ []) 2 5
-      ∷ []
-  -- q = p - 1: the first bit lost
-  pub first-lost : demonstration (upTo 100) (0xb0 ∷ []) 4 (0x60 ∷ []) 3
-      ≡ asks (0x00 ∷ 0x01 ∷ 0x08 ∷ 0x01 ∷ [])
-      ∷ answers (0x00 ∷ 0x04 ∷ [])
-      ∷ asks (0x02 ∷ 0x00 ∷ 0x04 ∷ [])
-      ∷ answers (0x02 ∷ 0x03 ∷ 0xab ∷ 0x01 ∷ [])
-      ∷ row 0 4 2
-      ∷ rebuilt (true ∷ false ∷ true ∷ true ∷ []) 1 4
-      ∷ []
-  -- q = p - 1 with q 0: p 1
-  pub single-lost : demonstration (upTo 100) (0x80 ∷ []) 1 [] 0
-      ≡ asks (0x00 ∷ 0x01 ∷ 0x08 ∷ 0x01 ∷ [])
-      ∷ answers (0x00 ∷ 0x01 ∷ [])
-      ∷ asks (0x02 ∷ 0x00 ∷ 0x01 ∷ [])
-      ∷ answers (0x02 ∷ 0x01 ∷ 0x21 ∷ [])
-      ∷ row 0 1 2
-      ∷ rebuilt (true ∷ []) 1 3
-      ∷ []
-  -- q = p - 1, but Y is not X less a bit: the trial's hash disagrees, and bits settle it
-  pub unrelated-short : demonstration (upTo 100) (0xb0 ∷ []) 4 (0x00 ∷ []) 3
-      ≡ asks (0x00 ∷ 0x01 ∷ 0x08 ∷ 0x01 ∷ [])
-      ∷ answers (0x00 ∷ 0x04 ∷ [])
-      ∷ asks (0x02 ∷ 0x00 ∷ 0x04 ∷ [])
-      ∷ answers (0x02 ∷ 0x03 ∷ 0xab ∷ 0x01 ∷ [])
-      ∷ asks (0x03 ∷ 0x00 ∷ 0x04 ∷ [])
-      ∷ answers (0x03 ∷ 0xb0 ∷ [])
-      ∷ row 0 4 5
-      ∷ rebuilt (true ∷ false ∷ true ∷ true ∷ []) 2 6
-      ∷ []
-  -- q = p + 1: a bit added before the first
-  pub first-added : demonstration (upTo 100) (0xa0 ∷ []) 3 (0x50 ∷ []) 4
-      ≡ asks (0x00 ∷ 0x01 ∷ 0x08 ∷ 0x01 ∷ [])
-      ∷ answers (0x00 ∷ 0x03 ∷ [])
-      ∷ asks (0x02 ∷ 0x00 ∷ 0x03 ∷ [])
-      ∷ answers (0x02 ∷ 0x00 ∷ 0xe4 ∷ 0x01 ∷ [])
-      ∷ row 0 3 3
-      ∷ rebuilt (true ∷ false ∷ true ∷ []) 1 4
-      ∷ []
-  -- a bit added behind the last
-  pub last-added : demonstration (upTo 100) (0xa0 ∷ []) 3 (0xb0 ∷ []) 4
-      ≡ asks (0x00 ∷ 0x01 ∷ 0x08 ∷ 0x01 ∷ [])
-      ∷ answers (0x00 ∷ 0x03 ∷ [])
-      ∷ asks (0x02 ∷ 0x00 ∷ 0x03 ∷ [])
-      ∷ answers (0x02 ∷ 0x00 ∷ 0xe4 ∷ 0x01 ∷ [])
-      ∷ row 0 3 3
-      ∷ rebuilt (true ∷ false ∷ true ∷ []) 1 4
-      ∷ []
-  -- 01's sample `100`, `0000`: take-out has none, then question 03 00 03, answer 03 80
+      ≡ asks opening ∷ answers (0x00 ∷ 0x00 ∷ [])
+      ∷ rebuilt [] 0 0 ∷ []
+  -- 01's sample `100`, `0000`: none, then question 03 00 03, answer 03 80
   pub no-take-out : demonstration (upTo 100) (0x80 ∷ []) 3 (0x00 ∷ []) 4
-      ≡ asks (0x00 ∷ 0x01 ∷ 0x08 ∷ 0x01 ∷ [])
-      ∷ answers (0x00 ∷ 0x03 ∷ [])
-      ∷ asks (0x02 ∷ 0x00 ∷ 0x03 ∷ [])
-      ∷ answers (0x02 ∷ 0x01 ∷ 0x21 ∷ [])
-      ∷ asks (0x03 ∷ 0x00 ∷ 0x03 ∷ [])
-      ∷ answers (0x03 ∷ 0x80 ∷ [])
-      ∷ row 0 3 5
-      ∷ rebuilt (true ∷ false ∷ false ∷ []) 2 5
-      ∷ []
-  -- q = p - 2: bits
-  pub two-lost : demonstration (upTo 100) (0xb0 ∷ []) 4 (0xc0 ∷ []) 2
-      ≡ asks (0x00 ∷ 0x01 ∷ 0x08 ∷ 0x01 ∷ [])
-      ∷ answers (0x00 ∷ 0x04 ∷ [])
-      ∷ asks (0x03 ∷ 0x00 ∷ 0x04 ∷ [])
-      ∷ answers (0x03 ∷ 0xb0 ∷ [])
-      ∷ row 0 4 5
-      ∷ rebuilt (true ∷ false ∷ true ∷ true ∷ []) 1 2
-      ∷ []
-  -- q = p + 2: bits
-  pub two-added : demonstration (upTo 100) (0xa0 ∷ []) 3 (0xb0 ∷ []) 5
-      ≡ asks (0x00 ∷ 0x01 ∷ 0x08 ∷ 0x01 ∷ [])
-      ∷ answers (0x00 ∷ 0x03 ∷ [])
-      ∷ asks (0x03 ∷ 0x00 ∷ 0x03 ∷ [])
-      ∷ answers (0x03 ∷ 0xa0 ∷ [])
-      ∷ row 0 3 5
-      ∷ rebuilt (true ∷ false ∷ true ∷ []) 1 2
-      ∷ []
+      ≡ asks opening ∷ answers (0x00 ∷ 0x03 ∷ [])
+      ∷ asks (0x02 ∷ 0x00 ∷ 0x03 ∷ []) ∷ answers (0x02 ∷ 0x01 ∷ 0x21 ∷ [])
+      ∷ asks (0x03 ∷ 0x00 ∷ 0x03 ∷ []) ∷ answers (0x03 ∷ 0x80 ∷ [])
+      ∷ row 0 3 5 ∷ rebuilt (true ∷ false ∷ false ∷ []) 2 5 ∷ []
   -- demand 3's exception: for h 8 and key 1 the nine bits of X hash to 0 as nine zeros do, and the run ends with Y's zeros
   pub collision : demonstration (upTo 100) (0x4c ∷ 0x00 ∷ []) 9 (0x00 ∷ 0x00 ∷ []) 9
-      ≡ asks (0x00 ∷ 0x01 ∷ 0x08 ∷ 0x01 ∷ [])
-      ∷ answers (0x00 ∷ 0x09 ∷ [])
-      ∷ asks (0x01 ∷ 0x00 ∷ 0x09 ∷ [])
-      ∷ answers (0x01 ∷ 0x00 ∷ [])
-      ∷ row 0 9 1
-      ∷ rebuilt (false ∷ false ∷ false ∷ false ∷ false ∷ false ∷ false ∷ false ∷ false ∷ []) 1 2
-      ∷ []
-  -- p 63, q 65: under 4(m + h), bits at once
-  pub just-small : demonstration (upTo 100) (0x33 ∷ 0x38 ∷ 0x85 ∷ 0xfa ∷ 0x2f ∷ 0xea ∷ 0x99 ∷ 0xa8 ∷ []) 63 (0x36 ∷ 0x71 ∷ 0x15 ∷ 0xfa ∷ 0x2f ∷ 0xea ∷ 0x8c ∷ 0xd4 ∷ 0x80 ∷ []) 65
-      ≡ asks (0x00 ∷ 0x01 ∷ 0x08 ∷ 0x01 ∷ [])
-      ∷ answers (0x00 ∷ 0x3f ∷ [])
-      ∷ asks (0x03 ∷ 0x00 ∷ 0x3f ∷ [])
-      ∷ answers (0x03 ∷ 0x33 ∷ 0x38 ∷ 0x85 ∷ 0xfa ∷ 0x2f ∷ 0xea ∷ 0x99 ∷ 0xa8 ∷ [])
-      ∷ row 0 63 5
-      ∷ rebuilt (range (0x33 ∷ 0x38 ∷ 0x85 ∷ 0xfa ∷ 0x2f ∷ 0xea ∷ 0x99 ∷ 0xa8 ∷ []) 0 63) 1 9
-      ∷ []
+      ≡ asks opening ∷ answers (0x00 ∷ 0x09 ∷ [])
+      ∷ asks (0x01 ∷ 0x00 ∷ 0x09 ∷ []) ∷ answers (0x01 ∷ 0x00 ∷ [])
+      ∷ row 0 9 1 ∷ rebuilt (replicate 9 false) 1 2 ∷ []
   -- p 64, q 66: the anchor at 28 is placed and leaves a left and a right piece
   pub anchor : demonstration (upTo 100) x64 64 y66 66
-      ≡ asks (0x00 ∷ 0x01 ∷ 0x08 ∷ 0x01 ∷ [])
-      ∷ answers (0x00 ∷ 0x40 ∷ [])
-      ∷ asks (0x03 ∷ 0x1c ∷ 0x08 ∷ [])
-      ∷ answers (0x03 ∷ 0xa2 ∷ [])
-      ∷ asks (0x01 ∷ 0x00 ∷ 0x1c ∷ [])
-      ∷ answers (0x01 ∷ 0x30 ∷ [])
-      ∷ asks (0x03 ∷ 0x00 ∷ 0x1c ∷ [])
-      ∷ answers (0x03 ∷ 0x33 ∷ 0x38 ∷ 0x85 ∷ 0xf0 ∷ [])
-      ∷ asks (0x03 ∷ 0x24 ∷ 0x1c ∷ [])
-      ∷ answers (0x03 ∷ 0xfe ∷ 0xa9 ∷ 0x9a ∷ 0x90 ∷ [])
-      ∷ row 28 8 4
-      ∷ row 0 28 5
-      ∷ row 36 28 5
-      ∷ rebuilt (range x64 0 64) 4 14
-      ∷ []
+      ≡ asks opening ∷ answers (0x00 ∷ 0x40 ∷ [])
+      ∷ asks (0x03 ∷ 0x1c ∷ 0x08 ∷ []) ∷ answers (0x03 ∷ 0xa2 ∷ [])
+      ∷ asks (0x01 ∷ 0x00 ∷ 0x1c ∷ []) ∷ answers (0x01 ∷ 0x30 ∷ [])
+      ∷ asks (0x03 ∷ 0x00 ∷ 0x1c ∷ []) ∷ answers (0x03 ∷ 0x33 ∷ 0x38 ∷ 0x85 ∷ 0xf0 ∷ [])
+      ∷ asks (0x03 ∷ 0x24 ∷ 0x1c ∷ []) ∷ answers (0x03 ∷ 0xfe ∷ 0xa9 ∷ 0x9a ∷ 0x90 ∷ [])
+      ∷ row 28 8 4 ∷ row 0 28 5 ∷ row 36 28 5 ∷ rebuilt (range x64 0 64) 4 14 ∷ []
   -- nowhere to place the anchors at 28, 36, 20: the whole piece
-  pub three-anchors : demonstration (upTo 100) x64 64 (0x00 ∷ 0x00 ∷ 0x00 ∷ 0x00 ∷ 0x00 ∷ 0x00 ∷ 0x00 ∷ 0x00 ∷ 0x00 ∷ []) 66
-      ≡ asks (0x00 ∷ 0x01 ∷ 0x08 ∷ 0x01 ∷ [])
-      ∷ answers (0x00 ∷ 0x40 ∷ [])
-      ∷ asks (0x03 ∷ 0x1c ∷ 0x08 ∷ [])
-      ∷ answers (0x03 ∷ 0xa2 ∷ [])
-      ∷ asks (0x03 ∷ 0x24 ∷ 0x08 ∷ [])
-      ∷ answers (0x03 ∷ 0xfe ∷ [])
-      ∷ asks (0x03 ∷ 0x14 ∷ 0x08 ∷ [])
-      ∷ answers (0x03 ∷ 0x5f ∷ [])
-      ∷ asks (0x03 ∷ 0x00 ∷ 0x40 ∷ [])
-      ∷ answers (0x03 ∷ 0x33 ∷ 0x38 ∷ 0x85 ∷ 0xfa ∷ 0x2f ∷ 0xea ∷ 0x99 ∷ 0xa9 ∷ [])
-      ∷ row 0 64 5
-      ∷ rebuilt (range x64 0 64) 4 15
-      ∷ []
+  pub three-anchors : demonstration (upTo 100) x64 64 (replicate 9 0x00) 66
+      ≡ asks opening ∷ answers (0x00 ∷ 0x40 ∷ [])
+      ∷ asks (0x03 ∷ 0x1c ∷ 0x08 ∷ []) ∷ answers (0x03 ∷ 0xa2 ∷ [])
+      ∷ asks (0x03 ∷ 0x24 ∷ 0x08 ∷ []) ∷ answers (0x03 ∷ 0xfe ∷ [])
+      ∷ asks (0x03 ∷ 0x14 ∷ 0x08 ∷ []) ∷ answers (0x03 ∷ 0x5f ∷ [])
+      ∷ asks (0x03 ∷ 0x00 ∷ 0x40 ∷ []) ∷ answers (0x03 ∷ 0x33 ∷ 0x38 ∷ 0x85 ∷ 0xfa ∷ 0x2f ∷ 0xea ∷ 0x99 ∷ 0xa9 ∷ [])
+      ∷ row 0 64 5 ∷ rebuilt (range x64 0 64) 4 15 ∷ []
   -- the same as `anchor` with ceiling 2: the anchor's 2 bytes do not exceed it, the left piece's hash does, and bits 0, 64 replaces the anchor's row
   pub at-ceiling : demonstration (upTo 2) x64 64 y66 66
-      ≡ asks (0x00 ∷ 0x01 ∷ 0x08 ∷ 0x01 ∷ [])
-      ∷ answers (0x00 ∷ 0x40 ∷ [])
-      ∷ asks (0x03 ∷ 0x1c ∷ 0x08 ∷ [])
-      ∷ answers (0x03 ∷ 0xa2 ∷ [])
-      ∷ asks (0x01 ∷ 0x00 ∷ 0x1c ∷ [])
-      ∷ answers (0x01 ∷ 0x30 ∷ [])
-      ∷ asks (0x03 ∷ 0x00 ∷ 0x40 ∷ [])
-      ∷ answers (0x03 ∷ 0x33 ∷ 0x38 ∷ 0x85 ∷ 0xfa ∷ 0x2f ∷ 0xea ∷ 0x99 ∷ 0xa9 ∷ [])
-      ∷ row 0 64 5
-      ∷ rebuilt (range x64 0 64) 3 13
-      ∷ []
+      ≡ asks opening ∷ answers (0x00 ∷ 0x40 ∷ [])
+      ∷ asks (0x03 ∷ 0x1c ∷ 0x08 ∷ []) ∷ answers (0x03 ∷ 0xa2 ∷ [])
+      ∷ asks (0x01 ∷ 0x00 ∷ 0x1c ∷ []) ∷ answers (0x01 ∷ 0x30 ∷ [])
+      ∷ asks (0x03 ∷ 0x00 ∷ 0x40 ∷ []) ∷ answers (0x03 ∷ 0x33 ∷ 0x38 ∷ 0x85 ∷ 0xfa ∷ 0x2f ∷ 0xea ∷ 0x99 ∷ 0xa9 ∷ [])
+      ∷ row 0 64 5 ∷ rebuilt (range x64 0 64) 3 13 ∷ []
   -- ceiling 1: the anchor's 2 bytes exceed it
   pub past-ceiling : demonstration (upTo 1) x64 64 y66 66
-      ≡ asks (0x00 ∷ 0x01 ∷ 0x08 ∷ 0x01 ∷ [])
-      ∷ answers (0x00 ∷ 0x40 ∷ [])
-      ∷ asks (0x03 ∷ 0x1c ∷ 0x08 ∷ [])
-      ∷ answers (0x03 ∷ 0xa2 ∷ [])
-      ∷ asks (0x03 ∷ 0x00 ∷ 0x40 ∷ [])
-      ∷ answers (0x03 ∷ 0x33 ∷ 0x38 ∷ 0x85 ∷ 0xfa ∷ 0x2f ∷ 0xea ∷ 0x99 ∷ 0xa9 ∷ [])
-      ∷ row 0 64 5
-      ∷ rebuilt (range x64 0 64) 2 11
-      ∷ []
-  -- ceiling 0: the count exceeds it, but nothing waits
-  pub finish-past-ceiling : demonstration (upTo 0) (0xb0 ∷ []) 4 (0xa0 ∷ []) 3
-      ≡ asks (0x00 ∷ 0x01 ∷ 0x08 ∷ 0x01 ∷ [])
-      ∷ answers (0x00 ∷ 0x04 ∷ [])
-      ∷ asks (0x02 ∷ 0x00 ∷ 0x04 ∷ [])
-      ∷ answers (0x02 ∷ 0x03 ∷ 0xab ∷ 0x01 ∷ [])
-      ∷ row 0 4 2
-      ∷ rebuilt (true ∷ false ∷ true ∷ true ∷ []) 1 4
-      ∷ []
-  -- ceiling 0: a piece waits, so bits 0, 3
-  pub ceiling-zero : demonstration (upTo 0) (0x80 ∷ []) 3 (0x00 ∷ []) 4
-      ≡ asks (0x00 ∷ 0x01 ∷ 0x08 ∷ 0x01 ∷ [])
-      ∷ answers (0x00 ∷ 0x03 ∷ [])
-      ∷ asks (0x02 ∷ 0x00 ∷ 0x03 ∷ [])
-      ∷ answers (0x02 ∷ 0x01 ∷ 0x21 ∷ [])
-      ∷ asks (0x03 ∷ 0x00 ∷ 0x03 ∷ [])
-      ∷ answers (0x03 ∷ 0x80 ∷ [])
-      ∷ row 0 3 5
-      ∷ rebuilt (true ∷ false ∷ false ∷ []) 2 5
-      ∷ []
-  -- 160 bits, two lost, two added, one changed
-  pub longer : demonstration (upTo 100) x160 160 y160 160
-      ≡ asks (0x00 ∷ 0x01 ∷ 0x08 ∷ 0x01 ∷ [])
-      ∷ answers (0x00 ∷ 0xa0 ∷ 0x01 ∷ [])
-      ∷ asks (0x01 ∷ 0x00 ∷ 0xa0 ∷ 0x01 ∷ [])
-      ∷ answers (0x01 ∷ 0xdd ∷ 0x01 ∷ [])
-      ∷ asks (0x03 ∷ 0x4c ∷ 0x08 ∷ [])
-      ∷ answers (0x03 ∷ 0x9b ∷ [])
-      ∷ asks (0x03 ∷ 0x22 ∷ 0x08 ∷ [])
-      ∷ answers (0x03 ∷ 0xb4 ∷ [])
-      ∷ asks (0x02 ∷ 0x00 ∷ 0x22 ∷ [])
-      ∷ answers (0x02 ∷ 0x10 ∷ 0x67 ∷ [])
-      ∷ asks (0x02 ∷ 0x2a ∷ 0x22 ∷ [])
-      ∷ answers (0x02 ∷ 0x16 ∷ 0x66 ∷ [])
-      ∷ asks (0x03 ∷ 0x76 ∷ 0x08 ∷ [])
-      ∷ answers (0x03 ∷ 0x06 ∷ [])
-      ∷ asks (0x02 ∷ 0x54 ∷ 0x22 ∷ [])
-      ∷ answers (0x02 ∷ 0x14 ∷ 0x77 ∷ [])
-      ∷ asks (0x02 ∷ 0x7e ∷ 0x22 ∷ [])
-      ∷ answers (0x02 ∷ 0x15 ∷ 0xa0 ∷ 0x01 ∷ [])
-      ∷ asks (0x03 ∷ 0x7e ∷ 0x22 ∷ [])
-      ∷ answers (0x03 ∷ 0x85 ∷ 0xf0 ∷ 0xa1 ∷ 0xc3 ∷ 0x00 ∷ [])
-      ∷ row 76 8 4
-      ∷ row 34 8 4
-      ∷ row 0 34 2
-      ∷ row 42 34 2
-      ∷ row 118 8 4
-      ∷ row 84 34 3
-      ∷ row 126 34 5
-      ∷ rebuilt (range x160 0 160) 9 28
-      ∷ []
-  -- the house settings: 300 bits, three lost, one added
-  pub house : demonstration houseSettings x300 300 y298 298
-      ≡ asks (0x00 ∷ 0x01 ∷ 0x10 ∷ 0x01 ∷ [])
-      ∷ answers (0x00 ∷ 0xac ∷ 0x02 ∷ [])
-      ∷ asks (0x03 ∷ 0x8e ∷ 0x01 ∷ 0x10 ∷ [])
-      ∷ answers (0x03 ∷ 0x59 ∷ 0xd7 ∷ [])
-      ∷ asks (0x03 ∷ 0x9e ∷ 0x01 ∷ 0x10 ∷ [])
-      ∷ answers (0x03 ∷ 0xf3 ∷ 0xff ∷ [])
-      ∷ asks (0x03 ∷ 0x47 ∷ 0x10 ∷ [])
-      ∷ answers (0x03 ∷ 0x83 ∷ 0xed ∷ [])
-      ∷ asks (0x03 ∷ 0x00 ∷ 0x47 ∷ [])
-      ∷ answers (0x03 ∷ 0xd0 ∷ 0xd0 ∷ 0xd1 ∷ 0x00 ∷ 0xc3 ∷ 0x65 ∷ 0xaf ∷ 0xb2 ∷ 0xdc ∷ [])
-      ∷ asks (0x02 ∷ 0x57 ∷ 0x47 ∷ [])
-      ∷ answers (0x02 ∷ 0x27 ∷ 0xfd ∷ 0xf1 ∷ 0x02 ∷ [])
-      ∷ asks (0x02 ∷ 0xae ∷ 0x01 ∷ 0x7e ∷ [])
-      ∷ answers (0x02 ∷ 0x31 ∷ 0xb3 ∷ 0xd6 ∷ 0x03 ∷ [])
-      ∷ row 158 16 4
-      ∷ row 71 16 4
-      ∷ row 0 71 5
-      ∷ row 87 71 2
-      ∷ row 174 126 3
-      ∷ rebuilt (range x300 0 300) 6 29
-      ∷ []
-  -- turned down: m 7; a spare bit of Y; a spare bit of X
-  pub bad-setting : demonstration (record { m = 7; h = 8; k = 1; key = 1; ceiling = 100 }) (0xb0 ∷ []) 4 (0xa0 ∷ []) 3
-      ≡ turnedDown 1
-      ∷ []
-  pub bad-y : demonstration (upTo 100) (0xb0 ∷ []) 4 (0xb0 ∷ []) 3
-      ≡ turnedDown 2
-      ∷ []
-  pub bad-x : demonstration (upTo 100) (0xb8 ∷ []) 4 (0xa0 ∷ []) 3
-      ≡ asks (0x00 ∷ 0x01 ∷ 0x08 ∷ 0x01 ∷ [])
-      ∷ turnedDown 2
-      ∷ []
+      ≡ asks opening ∷ answers (0x00 ∷ 0x40 ∷ [])
+      ∷ asks (0x03 ∷ 0x1c ∷ 0x08 ∷ []) ∷ answers (0x03 ∷ 0xa2 ∷ [])
+      ∷ asks (0x03 ∷ 0x00 ∷ 0x40 ∷ []) ∷ answers (0x03 ∷ 0x33 ∷ 0x38 ∷ 0x85 ∷ 0xfa ∷ 0x2f ∷ 0xea ∷ 0x99 ∷ 0xa9 ∷ [])
+      ∷ row 0 64 5 ∷ rebuilt (range x64 0 64) 2 11 ∷ []
   -- 01's own start
-  pub started : rebuilderStart (upTo 100) (0xa0 ∷ []) 3 8 ≡ starts (freshRebuilder (upTo 100) 3) (0x00 ∷ 0x01 ∷ 0x08 ∷ 0x01 ∷ [])
+  pub started : rebuilderStart (upTo 100) (0xa0 ∷ []) 3 8 ≡ starts (freshRebuilder (upTo 100) 3) opening
   -- and its calls from there on. The opening sent twice and a message that ends inside its hash are turned down and change nothing;
   -- byte 07 behind the string and the unused row keep what they had
-  pub all-calls : worldAfter exampleLent (firstWorld (freshRebuilder (upTo 100) 3) (0x00 ∷ 0x01 ∷ 0x08 ∷ 0x01 ∷ []) (0xff ∷ 0x07 ∷ []) (nines ∷ nines ∷ [])) exampleCalls
+  pub all-calls : worldAfter exampleLent (firstWorld (freshRebuilder (upTo 100) 3) opening (0xff ∷ 0x07 ∷ []) (nines ∷ nines ∷ [])) exampleCalls
       ≡ world (record { opened = 1; bits = 4; h = 8; key = 1; answers = 2 })
-      (record {
-        settings = upTo 100;
-        ybits = 3;
-        phase = 1;
-        n = 4;
-        answered = 2;
-        counted = 4;
-        rows = 1;
-        stage = 0;
-        waiting = 0;
-        pieces = replicate 32 noPiece;
-      })
+      (record { settings = upTo 100; ybits = 3; phase = 1; n = 4; answered = 2; counted = 4; rows = 1; stage = 0; waiting = 0; pieces = replicate 32 noPiece })
       (0xb0 ∷ 0x07 ∷ [])
       (record { start = 0; len = 4; how = 2 } ∷ nines ∷ [])
       []
-      ((0x02 ∷ 0x00 ∷ 0x04 ∷ []) ∷ (0x00 ∷ 0x01 ∷ 0x08 ∷ 0x01 ∷ []) ∷ [])
+      ((0x02 ∷ 0x00 ∷ 0x04 ∷ []) ∷ opening ∷ [])
       ((0x02 ∷ 0x03 ∷ 0xab ∷ 0x01 ∷ []) ∷ (0x00 ∷ 0x04 ∷ []) ∷ [])
 
 pub demo : Demo
 unfolding bitAt range flipped setBit writeBits pack cleared sameBits noneSet stringRule syndrome insertions deletions withSyndrome putIn takeOut xorLeft xorRight step hashFrom hash groups number nextByte numberAt kindAt questionBytes openingAt rangeAt fieldsAt answerBytes sizeAt hashAt syndromeAt bitsAt answerFields readAnswer withinLimits isqrt place hashOf laterStage effect laterNumber firstNumber nextNumber anchorOffset top popped pushed restaged retried splitAt askFor planned holderSound isBlank blankFrom pieceFits inOrder rowsLeft asksLeft stageFits topFits stackSound openingSound piecesSound wholeSound sound sameBitCount sends holderCall rebuilderStart tallied effectStep openingStep wholeStep stepOf rebuilderCall
-demo =
-    record {
-      example = refl;
-      empty = refl;
-      from-empty = refl;
-      equal = refl;
-      changed = refl;
-      first-lost = refl;
-      single-lost = refl;
-      unrelated-short = refl;
-      first-added = refl;
-      last-added = refl;
-      no-take-out = refl;
-      two-lost = refl;
-      two-added = refl;
-      collision = refl;
-      just-small = refl;
-      anchor = refl;
-      three-anchors = refl;
-      at-ceiling = refl;
-      past-ceiling = refl;
-      finish-past-ceiling = refl;
-      ceiling-zero = refl;
-      longer = refl;
-      house = refl;
-      bad-setting = refl;
-      bad-y = refl;
-      bad-x = refl;
-      started = refl;
-      all-calls = refl;
-    }
+demo = record { example = refl; house = refl; empty = refl; no-take-out = refl; collision = refl; anchor = refl; three-anchors = refl; at-ceiling = refl; past-ceiling = refl; started = refl; all-calls = refl }
