@@ -15,7 +15,7 @@ use Rattle.strings.specs.laws.Tests.{and-left, and-right}
 use Rattle.codes.specs.Syndrome.{syndrome}
 use Rattle.codes.specs.Repair.{repairTo}
 use Rattle.codes.specs.Hash.{hash}
-use Rattle.codes.specs.Entries.{refusal, value, syndromeCall, hashSettings, hashCall, repairRange, repairCall}
+use Rattle.codes.specs.Entries.{Answer, value, refusal, unless, syndromeCall, hashSettings, hashCall, repairRange, repairCall}
 
 -- ---- tests
 and-false : (a : Bool) → a && false ≡ false
@@ -29,6 +29,11 @@ and-true false = refl
 or-cases : (a b : Bool) → a || b ≡ true → (a ≡ true) ⊎ (b ≡ true)
 or-cases true b e = inl refl
 or-cases false b e = inr e
+
+-- a call that answers has passed its test
+pub unless-value : {A : Type 0} (t : Bool) (n : ℕ) (go : Answer A) (v : A) → unless t n go ≡ value v → (t ≡ true) × (go ≡ value v)
+unless-value true n go v e = (refl, e)
+unless-value false n go v e = let z : _≡_ {A = ℕ} 0 1 = cc in absurd (omega arith)
 
 -- a whole string is a range
 pub whole-part : (s : List ℕ) (bits : ℕ) → stringRule s bits ≡ true → Part s 0 bits

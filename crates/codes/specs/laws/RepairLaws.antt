@@ -10,10 +10,10 @@ use native.Mathlib.Decide.{decLt, decLe}
 use native.Mathlib.Omega.{arith}
 use lib.ListN.{length, take, drop, getD}
 use lib.Dec.{eqb, leb}
-use borrow.Author.Tests.{le-leb, lt-leb, leb-true, leb-false, eqb-true, eqb-false}
+use borrow.Author.Tests.{le-leb, lt-leb, leb-true, leb-false, eq-eqb, ne-eqb, eqb-true, eqb-false}
 use Rattle.codes.specs.Syndrome.{weightedSum, syndrome}
 use Rattle.codes.specs.laws.SyndromeLaws.{weighted-sum-insert-zero, weighted-sum-insert-one, ones-zeros, ones-drop, zeros-take, place-ones, syndrome-most}
-use Rattle.codes.specs.Repair.{without, insertAt, Deletion, insertions, deletions, withSyndrome, putIn, takeOut}
+use Rattle.codes.specs.Repair.{without, insertAt, Deletion, insertions, deletions, withSyndrome, putIn, takeOut, repairTo}
 use Rattle.codes.specs.code.Place.{ones, zeros, zeroPlace, onePlace, lack, putBit, putPlace, filled}
 
 -- ---- one bit put in, one bit taken out
@@ -398,6 +398,15 @@ module _ (a : ℕ) (l : List Bool) where
 
   pub take-out-length : (x : List Bool) → takeOut a l ≡ some x → length x + 1 ≡ length l
   take-out-length x e = sym (deletion-length x l (take-out-found x e .0))
+
+-- ---- the repair to n bits
+pub repair-put-in : (n a : ℕ) (l : List Bool) → length l + 1 ≡ n → repairTo n a l ≡ putIn a l
+unfolding repairTo
+repair-put-in n a l e = rw (eq-eqb (length l + 1) n e) refl
+
+pub repair-take-out : (n a : ℕ) (l : List Bool) → (length l + 1 ≡ n → ⊥) → repairTo n a l ≡ takeOut a l
+unfolding repairTo
+repair-take-out n a l e = rw (ne-eqb (length l + 1) n e) refl
 
 -- ---- what the rebuilder rests on
 -- if long deletes to short, put-in of short with long's syndrome is long

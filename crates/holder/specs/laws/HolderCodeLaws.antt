@@ -32,6 +32,7 @@ use Rattle.messages.specs.Questions.{fieldsAt}
 use Rattle.messages.specs.laws.QuestionLaws.{Within, RangeWithin, fields-within}
 use Rattle.messages.specs.Answers.{Answer, sizeAnswer, hashAnswer, syndromeAnswer, bitsAnswer, answerBytes}
 use Rattle.messages.specs.Writing.{Outcome, leaves, putFront}
+use Rattle.messages.specs.laws.WritingLaws.{put-fits, put-short}
 use Rattle.protocol.specs.declared.Holder.{Holder}
 use Rattle.protocol.specs.Anchors.{part}
 use Rattle.strings.specs.SettingLimits.{between}
@@ -49,11 +50,11 @@ abbrev outcomeSaid : (st next : Holder) → Outcome → HolderSaid
 outcomeSaid st next (leaves w buf) = saidHolder (written st next w) buf
 
 put-sends : (st next : Holder) (m buf : List ℕ) → Dec (length buf < length m) → outcomeSaid st next (putFront m buf) ≡ leavesHolder st buf (sends (length buf) next m)
-unfolding putFront sends
-put-sends st next m buf (yes h) = rw (lt-ltb (length buf) (length m) h, lt-leb (length m) (length buf) h) refl
+unfolding sends
+put-sends st next m buf (yes h) = ap (outcomeSaid st next) (sym (put-short m buf h)) ∙ rw (lt-leb (length m) (length buf) h) refl
 put-sends st next m buf (no h) =
     let l : length m ≤ length buf = omega arith in
-    rw (le-ltb (length buf) (length m) l, le-leb (length m) (length buf) l) refl
+    ap (outcomeSaid st next) (put-fits m buf l) ∙ rw (le-leb (length m) (length buf) l) refl
 
 pub written-said : (st next next′ : Holder) (m m′ buf after : List ℕ) (w : WriteResult) {r : HolderOut} → r ≡ written st next w → leaves w after ≡ putFront m buf → next ≡ next′ → m ≡ m′ → saidHolder r after ≡ leavesHolder st buf (sends (length buf) next′ m′)
 written-said st next next′ m m′ buf after w e f g k =

@@ -15,6 +15,7 @@ use Rattle.layout.specs.Bytes32.{bytesOf, numberAt}
 use Rattle.layout.specs.Layout.{allBytes}
 use Rattle.layout.specs.Sheet.{rowBytes, rowsBytes, rowAt, rowsAt, rowsIn, sheetBytesAfter}
 use Rattle.strings.specs.laws.StoreLaws.{sets-append}
+use Rattle.strings.specs.laws.PackLaws.{cleared-sets}
 use Rattle.layout.specs.laws.Bytes32Laws.{digits, number-before, number-after, number-in}
 use Rattle.layout.specs.laws.LayoutLaws.{store-next}
 
@@ -126,8 +127,7 @@ unfolding rowsBytes
 clear-none s from to h = let e : 0 ≡ to - from = omega arith in ap (λ (n : ℕ). sets s (12 * from) (rowsBytes (replicate n noRow))) e
 
 pub clear-some : (s t : List ℕ) (from to : ℕ) → t ≡ cleared s (12 * from) (12 * (to - from)) → t ≡ sets s (12 * from) (rowsBytes (replicate (to - from) noRow))
-unfolding cleared
-clear-some s t from to e = e ∙ ap (λ (l : List ℕ). sets s (12 * from) l) (sym (zero-rows (to - from)))
+clear-some s t from to e = e ∙ cleared-sets s (12 * from) (12 * (to - from)) ∙ ap (λ (l : List ℕ). sets s (12 * from) l) (sym (zero-rows (to - from)))
 
 pub row-written : (s t u : List ℕ) (i : ℕ) (r : Row) → t ≡ sets s (12 * i) (allBytes (r .start ∷ r .len ∷ [])) → u ≡ sets t (12 * i + 8) (bytesOf (r .how))
     → u ≡ sets s (12 * i) (rowBytes r)

@@ -1,7 +1,7 @@
 -- Laws of questions: lengths, reading what was written, and that nothing else is read to a question.
 use mathlib.Core.Path.{_≡_, refl, sym, ap, ap₂, _∙_}
 use mathlib.Core.Bool.{Bool, true, false, not}
-use mathlib.Core.List.{List, _++_}
+use mathlib.Core.List.{List, [], _++_}
 use Prim.Native.Nat.{ℕ, _+_, _≤_, _<_}
 use native.Mathlib.Omega.{arith}
 use lib.ListN.{length, drop, length-append}
@@ -69,6 +69,16 @@ question-parts (AskSyndrome start len) = refl
 question-parts (AskBits start len) = refl
 
 -- ---- lengths: 3 to 8 bytes
+question-length : (q : Question) → length (questionBytes q) ≡ 1 + length (fieldBytes q)
+question-length q =
+    let e = length-append (number (kindNumber (questionKind q))) (fieldBytes q) in
+    let k = kind-size (questionKind q) in
+    let p = ap length (question-parts q) in
+    omega arith
+
+pub question-some : (q : Question) → 0 < length (questionBytes q)
+question-some q = let e = question-length q in omega arith
+
 range-size : (n start len : ℕ) → n ≤ 65536 → RangeWithin n start len → (length (number start ++ number len) ≤ 6) × (2 ≤ length (number start ++ number len))
 range-size n start len m r =
     let x = r .ends in
@@ -93,12 +103,7 @@ field-size n (AskSyndrome start len) m r = let h = range-size n start len m (r .
 field-size n (AskBits start len) m r = let h = range-size n start len m (r .within) in (omega arith, h .1)
 
 pub question-size : (n : ℕ) (q : Question) → n ≤ 65536 → InRange n q → length (questionBytes q) ≤ 8
-question-size n q m r =
-    let h = field-size n q m r in
-    let e = length-append (number (kindNumber (questionKind q))) (fieldBytes q) in
-    let k = kind-size (questionKind q) in
-    let p = ap length (question-parts q) in
-    omega arith
+question-size n q m r = let h = field-size n q m r in let e = question-length q in omega arith
 
 -- ---- as the code meets them: r is what a number reader gave
 module _ (s : List ℕ) (at : ℕ) {r : NumberRead} (p : r ≡ numberAt s at) where
@@ -343,6 +348,13 @@ question-form s n q bytes e = question-kind s n q e (λ k at f g.
       range = r .range;
       bytes = i .begins ∙ ap₂ (λ (x : Kind) (l : List ℕ). number (kindNumber x) ++ l) (sym (r .kind)) (ap (λ (j : ℕ). drop j s) (sym (i .one)) ∙ r .bytes) ∙ sym (question-parts q);
     })
+
+-- an empty message is no question
+pub empty-no-question : (n : ℕ) (q : Question) → readQuestion [] n ≡ Asked q → ⊥
+empty-no-question n q e =
+    let f = ap length (question-form [] n q (λ i. omega arith) e .bytes) in
+    let s = question-some q in
+    omega arith
 
 -- so two messages that are read to the same question are the same
 pub question-one : (s t : List ℕ) (n : ℕ) (q : Question) → Bytes s → Bytes t → readQuestion s n ≡ Asked q → readQuestion t n ≡ Asked q → s ≡ t

@@ -1,5 +1,5 @@
 -- Laws of writing messages: parts written one behind the other are the whole, and the two cases of a lent buffer.
-use mathlib.Core.Path.{_≡_, refl, sym, ap, _∙_}
+use mathlib.Core.Path.{_≡_, refl, sym, ap, ap₂, _∙_}
 use mathlib.Core.List.{List, [], _++_, append-nil, append-assoc}
 use Prim.Native.Nat.{ℕ, _+_, _-_, _≤_, _<_}
 use native.Mathlib.Nat.{zero-add}
@@ -7,7 +7,7 @@ use native.Mathlib.Omega.{arith}
 use lib.ListN.{length, take, drop, length-append, length-drop, drop-of-length-le}
 use lib.Seq.{sets, sets-eq, take-all, drop-drop}
 use borrow.Author.Tests.{lt-ltb, le-ltb}
-use Rattle.strings.specs.Bits.{range, bytesFor, pack, cleared, writeBits}
+use Rattle.strings.specs.Bits.{range, bytesFor, pack, cleared, writeBits, atFront}
 use Rattle.strings.specs.laws.RangeLaws.{range-length}
 use Rattle.strings.specs.laws.StoreLaws.{sets-append, sets-front}
 use Rattle.strings.specs.laws.PackLaws.{write-cleared}
@@ -19,9 +19,13 @@ module _ (m buf : List ℕ) where
   unfolding putFront
   put-short h = rw (lt-ltb (length buf) (length m) h) refl
 
-  pub put-whole : {n : ℕ} {t : List ℕ} → length m ≤ length buf → n ≡ length m → t ≡ sets buf 0 m → leaves (Written n) t ≡ putFront m buf
+  pub put-fits : length m ≤ length buf → putFront m buf ≡ leaves (Written (length m)) (atFront m buf)
   unfolding putFront
-  put-whole h e f = rw (le-ltb (length buf) (length m) h, e, f, sets-front buf m h) refl
+  put-fits h = rw (le-ltb (length buf) (length m) h) refl
+
+  -- as the code meets it: n bytes were stored, and left the list t
+  pub put-whole : {n : ℕ} {t : List ℕ} → length m ≤ length buf → n ≡ length m → t ≡ sets buf 0 m → leaves (Written n) t ≡ putFront m buf
+  put-whole h e f = ap₂ (λ (n : ℕ) (t : List ℕ). leaves (Written n) t) e (f ∙ sets-front buf m h) ∙ sym (put-fits h)
 
 -- ---- a message of parts, each written behind the one before
 -- after the part m at the front of s the list is t, and i is the position behind it

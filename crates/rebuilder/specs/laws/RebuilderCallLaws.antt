@@ -22,6 +22,7 @@ use Rattle.messages.specs.declared.Kind.{Kind}
 use Rattle.messages.specs.declared.WriteResult.{WriteResult}
 use Rattle.messages.specs.declared.WriteResult.the-variants.{Written, TooShort}
 use Rattle.messages.specs.Writing.{leaves, putFront}
+use Rattle.messages.specs.laws.WritingLaws.{put-fits}
 use Rattle.messages.specs.declared.Question.{Question}
 use Rattle.messages.specs.declared.Question.the-variants.{AskOpen, AskHash, AskSyndrome, AskBits}
 use Rattle.messages.specs.declared.AnswerRead.{AnswerRead}
@@ -54,7 +55,7 @@ use Rattle.states.specs.code.StateCode.{Usable, Counts}
 use Rattle.states.specs.laws.SoundLaws.{sound-counts}
 use Rattle.rebuilder.specs.RebuilderOutcome.{RebuilderSaid, saidRebuilder, leavesRebuilder, noRebuilder, saidStart, leavesStart}
 use Rattle.rebuilder.specs.code.RebuilderParts.{OutIs, Acting, OneApart, oneLess, oneMore, stepTaken, Opening, WholeDue, BitsDue, dueLength, Due, answerRoom, heardStep, turnedDown}
-use Rattle.rebuilder.specs.laws.RebuilderCodeLaws.{out-said, step-said, size-most, put-fits, question-short}
+use Rattle.rebuilder.specs.laws.RebuilderCodeLaws.{out-said, step-said, size-most, question-short}
 
 -- ---- the whole string
 module _ (st : Rebuilder) (size room : ℕ) (k : WholeDue st size room) where

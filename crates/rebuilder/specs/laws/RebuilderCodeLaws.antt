@@ -19,6 +19,7 @@ use Rattle.codes.specs.declared.edits.Repair.the-variants.{Found, Nothing}
 use Rattle.codes.specs.Hash.{hash}
 use Rattle.codes.specs.Repair.{putIn, takeOut, repairTo}
 use Rattle.codes.specs.code.Edits.{edited, Fits, Editable, repairEdit}
+use Rattle.codes.specs.laws.RepairLaws.{repair-put-in, repair-take-out}
 use Rattle.codes.specs.laws.EditLaws.{repair-found, repair-nothing, repair-fits}
 use Rattle.messages.specs.declared.Question.{Question}
 use Rattle.messages.specs.declared.Question.the-variants.{AskHash, AskSyndrome, AskBits}
@@ -28,10 +29,11 @@ use Rattle.numbers.specs.Numbers.{number}
 use Rattle.messages.specs.Kinds.{kindNumber}
 use Rattle.messages.specs.laws.KindLaws.{kind-size}
 use Rattle.messages.specs.Questions.{questionBytes, questionKind}
-use Rattle.messages.specs.laws.QuestionLaws.{InRange, question-size, question-parts, fieldBytes}
+use Rattle.messages.specs.laws.QuestionLaws.{InRange, question-size, question-some}
 use Rattle.codes.specs.Entries.{Answer as Outcome, value}
 use Rattle.messages.specs.Answers.{Answer, hashAnswer, syndromeAnswer, bitsAnswer}
 use Rattle.messages.specs.Writing.{leaves, putFront}
+use Rattle.messages.specs.laws.WritingLaws.{put-fits}
 use Rattle.protocol.specs.declared.Settings.{Settings}
 use Rattle.protocol.specs.declared.How.{How}
 use Rattle.protocol.specs.declared.How.the-variants.{ByHash, ByAnchor, ByBits}
@@ -95,13 +97,6 @@ question-range s q e k = let f = sound-is s e in go (f .0) (phase-of s q (f .1) 
 pub question-short : (s : Rebuilder) (q : Question) → sound s ≡ true → planned s ≡ some q → length (questionBytes q) ≤ 8
 question-short s q e k = let r = question-range s q e k in let n = r .1 in question-size (max 1 (s .n)) q (omega arith) (r .0)
 
-question-some : (q : Question) → 0 < length (questionBytes q)
-question-some q =
-    let e = ap length (question-parts q) in
-    let a = length-append (number (kindNumber (questionKind q))) (fieldBytes q) in
-    let k = kind-size (questionKind q) in
-    omega arith
-
 next-said : (m : List ℕ) → callSaid (nextAnswer m) ≡ value (nextSize m)
 next-said [] = refl
 next-said (b ∷ m) = refl
@@ -109,10 +104,6 @@ next-said (b ∷ m) = refl
 next-asks : (m : List ℕ) → 0 < length m → nextAnswer m ≡ Asks (length m)
 next-asks [] h = absurd (omega arith)
 next-asks (b ∷ m) h = refl
-
-pub put-fits : (m buf : List ℕ) → length m ≤ length buf → putFront m buf ≡ leaves (Written (length m)) (atFront m buf)
-unfolding putFront
-put-fits m buf h = rw (le-ltb (length buf) (length m) h) refl
 
 abbrev pub given : (m : List ℕ) → Rebuilder → SheetChange → RebuilderOut
 given m s k = record { answer = nextAnswer m; state = s; sheet = k; answered = s .answered; counted = s .counted }
@@ -368,12 +359,10 @@ module _ (st : Rebuilder) (y : List ℕ) (size : ℕ) (ph : st .phase ≡ 1) whe
     len = range-length y (top st .y) (top st .q)
 
     repaired-put : top st .q + 1 ≡ top st .p → repairTo (top st .p) a copy ≡ putIn a copy
-    unfolding repairTo
-    repaired-put h = let l = len in rw (eq-eqb (length copy + 1) (top st .p) (omega arith)) refl
+    repaired-put h = let l = len in repair-put-in (top st .p) a copy (omega arith)
 
     repaired-take : top st .q ≡ top st .p + 1 → repairTo (top st .p) a copy ≡ takeOut a copy
-    unfolding repairTo
-    repaired-take h = let l = len in rw (ne-eqb (length copy + 1) (top st .p) (λ z. omega arith)) refl
+    repaired-take h = let l = len in repair-take-out (top st .p) a copy (λ z. omega arith)
 
     -- the effect is a trial of the repair, if there is one
     repair-step : OneApart (top st .p) (top st .q)

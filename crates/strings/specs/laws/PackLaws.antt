@@ -185,6 +185,10 @@ packed-into s l n e h =
     (rw e at c) ∙ sets-front s (pack l) (omega arith)
 
 -- ---- cleared bytes
+pub cleared-sets : (s : List ℕ) (at n : ℕ) → cleared s at n ≡ sets s at (zeroBytes n)
+unfolding cleared
+cleared-sets s at n = refl
+
 pub cleared-first : (s : List ℕ) (k : ℕ) → k ≤ length s → cleared s 0 k ≡ zeroBytes k ++ drop k s
 unfolding cleared
 cleared-first s k h = sets-at (zeroBytes k) s 0 k (length-zeros k) (omega arith) ∙ ap (λ (n : ℕ). zeroBytes k ++ drop n s) (zero-add k)
