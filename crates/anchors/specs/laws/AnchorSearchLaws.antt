@@ -16,7 +16,8 @@ use Rattle.strings.specs.StringRule.{stringRule}
 use Rattle.strings.specs.laws.RuleLaws.{rule-is}
 use Rattle.strings.specs.laws.RangeLaws.{range-length, range-at, range-equal, range-part, same-refl, same-is}
 use Rattle.strings.specs.laws.Tests.{true-false, and-left, and-right}
-use Rattle.codes.specs.Entries.{refusal, value}
+use Rattle.codes.specs.Entries.{Answer, refusal, value}
+use Rattle.codes.specs.laws.EntryLaws.{by-unless}
 use Rattle.protocol.specs.Anchors.{isqrt, distance, away, part, fits, Best, place}
 use Rattle.protocol.specs.laws.AnchorLaws.{place-best}
 use Rattle.anchors.specs.declared.Place.{Place}
@@ -323,6 +324,12 @@ module _ (bits start q p s m : ℕ) (piece : Bool) (e : piece ≡ leb (start + q
     range-offset inside g h = rw (← e, f, le-leb p 65536 h, ← g) refl
 
 -- ---- the host's call: what holds behind the tests, and its returns
+-- a refusal's number is at most 9, and a place is one of a string
+abbrev pub AnswerMost : Answer (Option ℕ) → Type 0
+AnswerMost (refusal e) = e ≤ 9
+AnswerMost (value none) = Unit {0}
+AnswerMost (value (some r)) = r ≤ 65536
+
 module _ (y : List ℕ) (bits start q p s m k : ℕ) (a : List ℕ) where
   pub bad-setting : anchorSettings m k ≡ false → refusal 1 ≡ anchorSearch y bits start q p s m k a
   unfolding anchorSearch
@@ -388,3 +395,16 @@ module _ (y : List ℕ) (bits start q p s m k : ℕ) (a : List ℕ) where
               go : (o : Option ℕ) → placeIn o ≡ Nowhere → o ≡ none
               go none e = refl
               go (some x) e = cc
+
+  -- what is answered
+  pub search-most : AnswerMost (anchorSearch y bits start q p s m k a)
+  unfolding anchorSearch
+  search-most =
+      by-unless AnswerMost (anchorSettings m k) 1 (omega arith) (λ e.
+      by-unless AnswerMost (stringRule y bits && stringRule a m) 2 (omega arith) (λ f.
+      by-unless AnswerMost (anchorRange bits start q p s m) 8 (omega arith) (λ h.
+      go (tested-ready e (and-left (stringRule y bits) (stringRule a m) f) (and-right (stringRule y bits) (stringRule a m) f) h .few) (place m k p s (range y start q) (range a 0 m)) (best-of y start q p s m k a 0))))
+    where
+      go : start + q ≤ 65536 → (o : Option ℕ) → Best (fits m k p s (range y start q) (range a 0 m)) (away p q s) 0 (q + 1 - m) o → AnswerMost (value o)
+      go few none b = tt
+      go few (some r) b = let c = b .1 in omega arith

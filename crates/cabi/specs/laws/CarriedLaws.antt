@@ -19,9 +19,9 @@ use Rattle.protocol.specs.declared.Piece.{Piece}
 use Rattle.protocol.specs.declared.Rebuilder.{Rebuilder}
 use Rattle.protocol.specs.Limits.{withinLimits}
 use Rattle.protocol.specs.States.{noPiece, held}
-use Rattle.protocol.specs.Soundness.{sound, openingSound, wholeSound, phaseSound}
-use Rattle.protocol.specs.laws.SoundLaws.{both, Ordered}
-use Rattle.protocol.specs.laws.SoundParts.{top-most, Framed, sound-is, PiecesIs, pieces-is, WholeIs, whole-is}
+use Rattle.protocol.specs.Soundness.{sound, wholeSound, phaseSound}
+use Rattle.protocol.specs.laws.SoundLaws.{Ordered}
+use Rattle.protocol.specs.laws.SoundParts.{top-most, Framed, sound-is, OpeningIs, opening-is, PiecesIs, pieces-is, WholeIs, whole-is}
 use Rattle.protocol.specs.laws.SoundSteps.{fresh-sound}
 use Rattle.protocol.specs.RebuilderCall.{starts, unlessStarted, rebuilderStart, freshRebuilder, takes, unlessTaken, Step, Rooms, rebuilderCall}
 use Rattle.protocol.specs.laws.Asking.{unless-taken, call-sound}
@@ -65,26 +65,13 @@ record Bounded (st : Rebuilder) : Type 0 where
   stage-most′ : st .stage ≤ 4
   order : Ordered (st .n) (st .ybits) 0 0 (held (st .waiting) (st .pieces))
 
-opening-bounded : (st : Rebuilder) → st .phase ≡ 0 → openingSound st ≡ true → Bounded st
-unfolding openingSound
-opening-bounded st p e =
-    let a = both (eqb (st .n) 0) (eqb (st .answered) 0 && (eqb (st .counted) 0 && (eqb (st .rows) 0 && (eqb (st .stage) 0 && eqb (st .waiting) 0)))) e in
-    let b = both (eqb (st .answered) 0) (eqb (st .counted) 0 && (eqb (st .rows) 0 && (eqb (st .stage) 0 && eqb (st .waiting) 0))) (a .1) in
-    let c = both (eqb (st .counted) 0) (eqb (st .rows) 0 && (eqb (st .stage) 0 && eqb (st .waiting) 0)) (b .1) in
-    let d = both (eqb (st .rows) 0) (eqb (st .stage) 0 && eqb (st .waiting) 0) (c .1) in
-    let f = both (eqb (st .stage) 0) (eqb (st .waiting) 0) (d .1) in
-    let answered = eqb-true (st .answered) 0 (b .0) in
-    let counted = eqb-true (st .counted) 0 (c .0) in
-    let rows = eqb-true (st .rows) 0 (d .0) in
-    let stage = eqb-true (st .stage) 0 (f .0) in
-    record {
-      phase-most = omega arith;
-      answered-most = omega arith;
-      counted-most = omega arith;
-      rows-most = omega arith;
-      stage-most′ = omega arith;
-      order = rw (eqb-true (st .waiting) 0 (f .1)) tt;
-    }
+opening-bounded : (st : Rebuilder) → st .phase ≡ 0 → OpeningIs st → Bounded st
+opening-bounded st p k =
+    let a = k .answered in
+    let c = k .counted in
+    let r = k .rows in
+    let s = k .stage in
+    record { phase-most = omega arith; answered-most = omega arith; counted-most = omega arith; rows-most = omega arith; stage-most′ = omega arith; order = rw (k .waiting) tt }
 
 pieces-bounded : (st : Rebuilder) → Framed st → st .phase ≡ 1 → PiecesIs st → Bounded st
 pieces-bounded st f p k =
@@ -112,7 +99,7 @@ bounded : (st : Rebuilder) → Framed st → phaseSound st ≡ true → Bounded 
 bounded st f e = go (ℕ-discrete (st .phase) 0) (ℕ-discrete (st .phase) 1)
   where
     go : Dec (st .phase ≡ 0) → Dec (st .phase ≡ 1) → Bounded st
-    go (yes z) o = opening-bounded st z (rw (eq-eqb (st .phase) 0 z) at e)
+    go (yes z) o = opening-bounded st z (opening-is st (rw (eq-eqb (st .phase) 0 z) at e))
     go (no z) (yes o) = pieces-bounded st f o (pieces-is st (rw (ne-eqb (st .phase) 0 z, eq-eqb (st .phase) 1 o) at e))
     go (no z) (no o) =
         let g : eqb (st .phase) 2 && wholeSound st ≡ true = rw (ne-eqb (st .phase) 0 z, ne-eqb (st .phase) 1 o) at e in

@@ -33,8 +33,7 @@ use Rattle.holder.specs.declared.HolderAnswer.the-variants.{Replied, Refused}
 use Rattle.holder.specs.declared.HolderOut.{HolderOut}
 use Rattle.holder.specs.HolderOutcome.{HolderSaid, answerSaid, saidHolder, leavesHolder}
 use Rattle.layout.specs.Layout.{holderBytes, holderOf}
-use Rattle.layout.specs.laws.LayoutLaws.{HolderFits, holder-back, length-holder}
-use Rattle.layout.specs.laws.Bytes32Laws.{number-below}
+use Rattle.layout.specs.laws.LayoutLaws.{holder-back, holder-fits, length-holder}
 use Rattle.cabi.specs.Packing.{packed}
 use Rattle.cabi.specs.Calls.{holderMade, holderOnBytes, holderLeft}
 
@@ -155,16 +154,6 @@ module _ (s x : List ℕ) (bits : ℕ) (msg reply reply′ : List ℕ) (st : Hol
       rw called (holder-replied s reply reply′ st out (holderCall st x bits msg (length reply)) size s′ k a (h ∙ whole))
 
 -- ---- the bytes carry the state: what a taken call leaves is read as its next state
-holder-fits : (s : List ℕ) → Bytes s → HolderFits (holderOf s)
-unfolding holderOf
-holder-fits s b = record {
-  opened-fits = number-below s 0 b;
-  bits-fits = number-below s 4 b;
-  h-fits = number-below s 8 b;
-  key-fits = number-below s 12 b;
-  answers-fits = number-below s 16 b;
-}
-
 pub holder-carried : (s x : List ℕ) (bits : ℕ) (msg : List ℕ) (room : ℕ) (next : Holder) (m : List ℕ) → Bytes s → Bytes msg
     → holderOnBytes s x bits msg room ≡ replies next m → holderOf (holderBytes next) ≡ next
 unfolding holderOnBytes

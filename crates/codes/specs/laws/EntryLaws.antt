@@ -15,7 +15,7 @@ use Rattle.strings.specs.laws.Tests.{and-left, and-right}
 use Rattle.codes.specs.Syndrome.{syndrome}
 use Rattle.codes.specs.Repair.{repairTo}
 use Rattle.codes.specs.Hash.{hash}
-use Rattle.codes.specs.Entries.{Answer, value, refusal, unless, syndromeCall, hashSettings, hashCall, repairRange, repairCall}
+use Rattle.codes.specs.Entries.{Answer, refusal, value, unless, syndromeCall, hashSettings, hashCall, repairRange, repairCall}
 
 -- ---- tests
 and-false : (a : Bool) → a && false ≡ false
@@ -30,10 +30,10 @@ or-cases : (a b : Bool) → a || b ≡ true → (a ≡ true) ⊎ (b ≡ true)
 or-cases true b e = inl refl
 or-cases false b e = inr e
 
--- a call that answers has passed its test
-pub unless-value : {A : Type 0} (t : Bool) (n : ℕ) (go : Answer A) (v : A) → unless t n go ≡ value v → (t ≡ true) × (go ≡ value v)
-unless-value true n go v e = (refl, e)
-unless-value false n go v e = let z : _≡_ {A = ℕ} 0 1 = cc in absurd (omega arith)
+-- to prove P of what a call with a test answers
+pub by-unless : {A : Type 0} (P : Answer A → Type 0) (t : Bool) (n : ℕ) {go : Answer A} → P (refusal n) → (t ≡ true → P go) → P (unless t n go)
+by-unless P true n f g = g refl
+by-unless P false n f g = f
 
 -- a whole string is a range
 pub whole-part : (s : List ℕ) (bits : ℕ) → stringRule s bits ≡ true → Part s 0 bits

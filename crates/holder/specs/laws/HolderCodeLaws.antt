@@ -8,7 +8,7 @@ use native.Mathlib.Omega.{arith}
 use native.Mathlib.Decide.{decLt}
 use lib.ListN.{length}
 use lib.Dec.{leb, ltb, eqb}
-use borrow.Author.Tests.{lt-ltb, le-ltb, lt-leb, le-leb, leb-true, ltb-true, eqb-true}
+use borrow.Author.Tests.{lt-leb, le-leb, leb-true, ltb-true, eqb-true}
 use Rattle.strings.specs.Bits.{range}
 use Rattle.strings.specs.StringRule.{stringRule}
 use Rattle.strings.specs.laws.RangeLaws.{range-length, range-part}

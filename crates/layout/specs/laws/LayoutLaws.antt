@@ -15,7 +15,8 @@ use Rattle.protocol.specs.States.{noPiece}
 use Rattle.layout.specs.Bytes32.{bytesOf, numberAt}
 use Rattle.layout.specs.Layout.{allBytes, holderBytes, holderOf, pieceBytes, pieceAt, piecesBytes, piecesAt, fieldBytes, rebuilderBytes, fieldsOf, rebuilderOf}
 use Rattle.strings.specs.laws.StoreLaws.{sets-append, sets-front}
-use Rattle.layout.specs.laws.Bytes32Laws.{digits, number-behind}
+use Rattle.strings.specs.laws.PackLaws.{Bytes}
+use Rattle.layout.specs.laws.Bytes32Laws.{digits, number-behind, number-below}
 
 -- ---- lengths
 pub length-holder : (st : Holder) → length (holderBytes st) ≡ 20
@@ -104,6 +105,17 @@ holder-read st l f =
 
 pub holder-back : (st : Holder) → HolderFits st → holderOf (holderBytes st) ≡ st
 holder-back st f = ap holderOf (sym (append-nil (holderBytes st))) ∙ holder-read st [] f
+
+-- the numbers that bytes are read as are below 2^32
+pub holder-fits : (s : List ℕ) → Bytes s → HolderFits (holderOf s)
+unfolding holderOf
+holder-fits s b = record {
+  opened-fits = number-below s 0 b;
+  bits-fits = number-below s 4 b;
+  h-fits = number-below s 8 b;
+  key-fits = number-below s 12 b;
+  answers-fits = number-below s 16 b;
+}
 
 -- ---- pieces
 pub piece-same : {a b c d a′ b′ c′ d′ : ℕ} → a ≡ a′ → b ≡ b′ → c ≡ c′ → d ≡ d′

@@ -3,22 +3,21 @@ use mathlib.Core.Path.{_≡_, refl, sym, ap, _∙_}
 use mathlib.Core.Bool.{Bool, true, false, cond, _&&_}
 use mathlib.Core.List.{List}
 use mathlib.Core.Option.{Option, none, some}
-use Prim.Native.Nat.{ℕ, zero, suc, _+_, _-_, _*_, _≤_}
+use Prim.Native.Nat.{ℕ, zero, suc, _+_, _-_, _*_}
 use native.Mathlib.Omega.{arith}
 use lib.ListN.{length, getD}
 use lib.Dec.{eqb}
 use borrow.Author.Tests.{eq-eqb, le-leb, ne-eqb}
-use Rattle.messages.specs.laws.AnswerLaws.{Proper as Passes, answer-form}
+use Rattle.messages.specs.laws.AnswerLaws.{answer-form}
 use Rattle.messages.specs.Answers.{Answer, answerValue, bitsAnswer, hashAnswer, readAnswer, sizeAnswer, syndromeAnswer}
 use Rattle.messages.specs.Questions.{questionKind}
 use Rattle.messages.specs.declared.AnswerRead.{AnswerRead}
 use Rattle.messages.specs.declared.AnswerRead.the-variants.{IsBits, IsHash, IsSize, IsSyndrome, NoAnswer}
 use Rattle.messages.specs.declared.Question.{Question}
-use Rattle.messages.specs.declared.Question.the-variants.{AskBits, AskHash, AskOpen, AskSyndrome}
+use Rattle.messages.specs.declared.Question.the-variants.{AskHash, AskSyndrome}
 use Rattle.protocol.specs.RebuilderCall.{Rooms, Step, Taken, awaits, bitsKnown, given, hears, numberedStage, questionLength, rebuilderCall, roomFor, stepOf, takes, unlessTaken, writtenQuestion}
 use Rattle.protocol.specs.Runs.{sizeOf}
 use Rattle.protocol.specs.Segments.{asks, hashing, puttingIn, step, takingOut, waiting}
-use Rattle.protocol.specs.laws.Shape.{Proper}
 use Rattle.protocol.specs.laws.SoundSteps.{step-sound}
 use Rattle.protocol.specs.Soundness.{sound}
 use Rattle.protocol.specs.laws.StackLaws.{numberedPhase, stageHeld}
@@ -74,43 +73,7 @@ asks-planned {S} {st = st} {s = s} h = go (st .phase) refl
         rw (ne-eqb (st .phase) 0 (λ z. omega arith), ne-eqb (st .phase) 1 (λ z. omega arith))
         (sym (ap (askStore S) (h .is) ∙ ap (λ (k : ℕ). askStore S (store (numberedPhase k) (st .n) (st .counted) (stageHeld S (st .stage) (held (st .waiting) (st .pieces))) (held (st .waiting) (st .pieces)) (h .str) (h .rows))) e))
 
--- ---- what a reader lets through is proper, and the holder's answers are read
-pub proper-of : (S : Settings) (q : Question) (a : Answer) → Passes (questionKind q) (questionLength q) (S .h) a → Proper S q a
-proper-of S (AskOpen h key) (sizeAnswer n) p = p .values
-proper-of S (AskOpen h key) (hashAnswer v) p = let e = p .of-kind in let z : _≡_ {A = ℕ} 0 1 = cc in absurd (omega arith)
-proper-of S (AskOpen h key) (syndromeAnswer a v) p = let e = p .of-kind in let z : _≡_ {A = ℕ} 0 1 = cc in absurd (omega arith)
-proper-of S (AskOpen h key) (bitsAnswer l) p = let e = p .of-kind in let z : _≡_ {A = ℕ} 0 1 = cc in absurd (omega arith)
-proper-of S (AskHash x n) (sizeAnswer v) p = let e = p .of-kind in let z : _≡_ {A = ℕ} 0 1 = cc in absurd (omega arith)
-proper-of S (AskHash x n) (hashAnswer v) p = p .values
-proper-of S (AskHash x n) (syndromeAnswer a v) p = let e = p .of-kind in let z : _≡_ {A = ℕ} 0 1 = cc in absurd (omega arith)
-proper-of S (AskHash x n) (bitsAnswer l) p = let e = p .of-kind in let z : _≡_ {A = ℕ} 0 1 = cc in absurd (omega arith)
-proper-of S (AskSyndrome x n) (sizeAnswer v) p = let e = p .of-kind in let z : _≡_ {A = ℕ} 0 1 = cc in absurd (omega arith)
-proper-of S (AskSyndrome x n) (hashAnswer v) p = let e = p .of-kind in let z : _≡_ {A = ℕ} 0 1 = cc in absurd (omega arith)
-proper-of S (AskSyndrome x n) (syndromeAnswer a v) p = p .values
-proper-of S (AskSyndrome x n) (bitsAnswer l) p = let e = p .of-kind in let z : _≡_ {A = ℕ} 0 1 = cc in absurd (omega arith)
-proper-of S (AskBits x n) (sizeAnswer v) p = let e = p .of-kind in let z : _≡_ {A = ℕ} 0 1 = cc in absurd (omega arith)
-proper-of S (AskBits x n) (hashAnswer v) p = let e = p .of-kind in let z : _≡_ {A = ℕ} 0 1 = cc in absurd (omega arith)
-proper-of S (AskBits x n) (syndromeAnswer a v) p = let e = p .of-kind in let z : _≡_ {A = ℕ} 0 1 = cc in absurd (omega arith)
-proper-of S (AskBits x n) (bitsAnswer l) p = p .values .0
-
-pub passes-of : (S : Settings) (q : Question) (a : Answer) → questionLength q ≤ 65536 → Proper S q a → Passes (questionKind q) (questionLength q) (S .h) a
-passes-of S (AskOpen h key) (sizeAnswer n) m p = record { of-kind = refl; values = p }
-passes-of S (AskOpen h key) (hashAnswer v) m p = absurd p
-passes-of S (AskOpen h key) (syndromeAnswer a v) m p = absurd p
-passes-of S (AskOpen h key) (bitsAnswer l) m p = absurd p
-passes-of S (AskHash x n) (sizeAnswer v) m p = absurd p
-passes-of S (AskHash x n) (hashAnswer v) m p = record { of-kind = refl; values = p }
-passes-of S (AskHash x n) (syndromeAnswer a v) m p = absurd p
-passes-of S (AskHash x n) (bitsAnswer l) m p = absurd p
-passes-of S (AskSyndrome x n) (sizeAnswer v) m p = absurd p
-passes-of S (AskSyndrome x n) (hashAnswer v) m p = absurd p
-passes-of S (AskSyndrome x n) (syndromeAnswer a v) m p = record { of-kind = refl; values = p }
-passes-of S (AskSyndrome x n) (bitsAnswer l) m p = absurd p
-passes-of S (AskBits x n) (sizeAnswer v) m p = absurd p
-passes-of S (AskBits x n) (hashAnswer v) m p = absurd p
-passes-of S (AskBits x n) (syndromeAnswer a v) m p = absurd p
-passes-of S (AskBits x n) (bitsAnswer l) m p = record { of-kind = refl; values = (p, m) }
-
+-- ---- the holder's answers are read
 -- an answer that was read is the one that its value says
 pub hears-value : (st : Rebuilder) (y msg : List ℕ) (rooms : Rooms) (len : ℕ) (a : Answer) (r : AnswerRead) → answerValue msg len r ≡ some a → hears st y msg rooms len r ≡ given st y msg rooms a
 hears-value st y msg rooms len a (IsSize n) e = let d : sizeAnswer n ≡ a = cc in ap (given st y msg rooms) d
@@ -170,4 +133,4 @@ unfolding sizeOf
 call-sound st y bits msg rooms step next arr by e =
     let t = taken-call st y bits msg rooms step next e in
     let f = answer-form (questionKind (t .q)) (questionLength (t .q)) (st .settings .h) msg (t .a) (t .read) in
-    rw (t .steps) (step-sound st y (t .q) (t .a) (length msg) arr (t .sound-before) (t .asked) (proper-of (st .settings) (t .q) (t .a) (f .proper)) (ap length (f .bytes by)))
+    rw (t .steps) (step-sound st y (t .q) (t .a) (length msg) arr (t .sound-before) (t .asked) (f .proper) (ap length (f .bytes by)))

@@ -12,14 +12,12 @@ use lib.Dec.{leb}
 use borrow.Author.Tests.{eq-eqb, le-leb, lt-ltb, ne-eqb}
 use Rattle.messages.specs.laws.AnswerLaws.{answer-reads}
 use Rattle.messages.specs.Answers.{Answer, answerBytes, answerValue, readAnswer}
-use Rattle.messages.specs.Kinds.{kindAt}
-use Rattle.numbers.specs.Numbers.{numberAt}
-use Rattle.messages.specs.laws.QuestionLaws.{InRange, question-fields-read, question-kind-reads, question-known, question-reads}
+use Rattle.messages.specs.laws.QuestionLaws.{InRange, empty-no-question, question-fields-read, question-kind-reads, question-known, question-reads}
 use Rattle.messages.specs.Questions.{questionBytes, questionKind, readQuestion}
 use Rattle.messages.specs.declared.Question.{Question}
 use Rattle.messages.specs.declared.Question.the-variants.{AskBits, AskHash, AskOpen, AskSyndrome}
 use Rattle.messages.specs.declared.QuestionRead.the-variants.{Asked}
-use Rattle.protocol.specs.laws.Asking.{asks-planned, hears-value, passes-of}
+use Rattle.protocol.specs.laws.Asking.{asks-planned, hears-value}
 use Rattle.protocol.specs.laws.Delivery.{NotOpen, NotOpening, StartedIs, advanced, inside-range, later-not-open, length-most, sheet-length-after, started-is, step-answered, string-length-after}
 use Rattle.protocol.specs.HolderCall.{Heard, afterAnswer, declines, freshHolder, holderCall, inTurn, replies, sameBitCount, sends}
 use Rattle.protocol.specs.laws.HolderLaws.{Made, OpenedIs, counts, fresh-holder-sound, heard-call, heard-made, holder-sound, opened-sound, opens}
@@ -48,11 +46,6 @@ use Rattle.strings.specs.Bits.{atFront, bytesFor, pack, range}
 use Rattle.strings.specs.laws.PackLaws.{pack-none}
 use Rattle.strings.specs.laws.RangeLaws.{range-length}
 use Rattle.strings.specs.laws.RuleLaws.{rule-is}
-
--- an empty message is no question
-no-question : (n : ℕ) (q : Question) → readQuestion [] n ≡ Asked q → ⊥
-unfolding readQuestion kindAt numberAt
-no-question n q e = let z : _≡_ {A = ℕ} 0 1 = cc in omega arith
 
 module _ (c : Lent) (r₀ : Rebuilder) (q₀ : List ℕ) (bs₀ : List ℕ) (sh₀ : List Row) (sup : Supposed c r₀ q₀ bs₀ sh₀) where
   abbrev S : Settings
@@ -194,11 +187,10 @@ module _ (c : Lent) (r₀ : Rebuilder) (q₀ : List ℕ) (bs₀ : List ℕ) (sh�
         let yb : r .ybits ≡ c .ybits = k .stands .copy ∙ y-length in
         let pl : planned r ≡ some q = planned-is r bs sh w l k ∙ wq in
         let rg = in-range l (k .honest) q wq in
-        let ps = passes-of S q a (length-most (c .xbits) q x-few rg) (proper l (k .honest) q wq) in
         let st : r .settings .h ≡ S .h = ap (λ (z : Settings). z .h) (k .stands .settings) in
         let rd : answerValue m (questionLength q) (readAnswer (questionKind q) (questionLength q) (r .settings .h) m) ≡ some a =
         ap (λ (z : ℕ). answerValue m (questionLength q) (readAnswer (questionKind q) (questionLength q) z m)) st
-        ∙ answer-reads (questionLength q) (S .h) (length-most (c .xbits) q x-few rg) (L .h-most) (questionKind q) a ps in
+        ∙ answer-reads (questionLength q) (S .h) (length-most (c .xbits) q x-few rg) (L .h-most) (questionKind q) a (proper l (k .honest) q wq) in
         let hv = hears-value r (c .y) m (roomsOf c bs sh) (questionLength q) a (readAnswer (questionKind q) (questionLength q) (r .settings .h) m) rd in
         rw (begun .string, eq-eqb (r .ybits) (c .ybits) yb, k .sound-now, pl, hv, room-true) refl
 
@@ -326,7 +318,7 @@ module _ (c : Lent) (r₀ : Rebuilder) (q₀ : List ℕ) (bs₀ : List ℕ) (sh�
       go : (o : Option Question) → question S (run S Y l) ≡ o → (q : Question) × (question S (run S Y l) ≡ some q) × (m ≡ answerBytes (told S X q))
       go none k =
           let z : readQuestion [] (c .xbits) ≡ Asked (f .0) = ap (λ (u : List ℕ). readQuestion u (c .xbits)) (sym (e ∙ ap writtenQuestion k)) ∙ f .1 in
-          absurd (no-question (c .xbits) (f .0) z)
+          absurd (empty-no-question (c .xbits) (f .0) z)
       go (some q) k =
           let r = question-reads q (c .xbits) x-few (in-range l h q k) in
           let z : readQuestion (questionBytes q) (c .xbits) ≡ Asked (f .0) = ap (λ (u : List ℕ). readQuestion u (c .xbits)) (sym (e ∙ ap writtenQuestion k)) ∙ f .1 in

@@ -13,7 +13,7 @@ use lib.Dec.{ltb}
 use borrow.Author.Tests.{ltb-false}
 use Rattle.codes.specs.laws.HashLaws.{hash-below}
 use Rattle.codes.specs.laws.SyndromeLaws.{syndrome-most}
-use Rattle.messages.specs.Answers.{Answer, bitsAnswer, hashAnswer, sizeAnswer, syndromeAnswer}
+use Rattle.messages.specs.Answers.{Answer}
 use Rattle.messages.specs.declared.Question.{Question}
 use Rattle.messages.specs.declared.Question.the-variants.{AskBits, AskHash, AskOpen, AskSyndrome}
 use Rattle.protocol.specs.Anchors.{part}
@@ -23,8 +23,8 @@ use Rattle.protocol.specs.Limits.{Limits}
 use Rattle.protocol.specs.laws.Right.{Good, begin-ok, begin-span, one, part-length, settled-right, work-ok}
 use Rattle.protocol.specs.Runs.{Honest, Run, advance, copies, copyOf, judge, opening, question, run, sizeOf, told, whole, working, full}
 use Rattle.protocol.specs.laws.SegmentLaws.{Chain, ask-waits, chain-end, found, rowSum-append, step-chain, step-copies, step-falls, step-rows}
-use Rattle.protocol.specs.Segments.{Segment, Stage, ask, asks, begin, dropped, effect, hashOf, newRows, row, rowsOf, settled, step, waiting, waits, work}
-use Rattle.protocol.specs.laws.Shape.{Inside, Proper, Shape, asks-inside, begin-shape, size-bits, sizes, work-shape}
+use Rattle.protocol.specs.Segments.{Segment, Stage, ask, asks, begin, dropped, effect, hashOf, newRows, rowsOf, settled, step, theSize, waiting, waits, work}
+use Rattle.protocol.specs.laws.Shape.{Inside, Proper, Shape, asks-inside, begin-shape, proper-bits, proper-full, proper-size, sizes, work-shape}
 use Rattle.protocol.specs.declared.How.the-variants.{ByBits}
 use Rattle.protocol.specs.declared.Row.{Row}
 use Rattle.protocol.specs.declared.Settings.{Settings}
@@ -125,10 +125,10 @@ module _ (S : Settings) (Y : List Bool) where
         go true false e f = (h, p, omega arith, λ g. absurd (true-false (sym g ∙ f)))
         go false u e f = (h, p, omega arith, λ g. ltb-false (S .ceiling) c e)
 
-    whole-ok : (asked n c : ℕ) (segs : List Segment) (rows : List Row) (b : List Bool) → length b ≡ n → Inv asked (whole n c segs rows)
-        → Inv (asked + 1) (working n (c + sizeOf (bitsAnswer b)) (settled ByBits Y b ∷ []) (row 0 n ByBits ∷ []))
-    whole-ok asked n c segs rows b l i =
-        let sb = size-bits b in
+    whole-ok : (asked n c : ℕ) (segs : List Segment) (rows : List Row) (a : Answer) → Proper S (AskBits 0 n) a → Inv asked (whole n c segs rows) → Inv (asked + 1) (advance S Y (whole n c segs rows) a)
+    whole-ok asked n c segs rows a o i =
+        let l = proper-bits S 0 n a o in
+        let sb = proper-full S 0 n a o in
         let h = i .0 in let p = i .1 in let m = i .2 in (
           record {
             size = h .size;
@@ -157,23 +157,10 @@ module _ (S : Settings) (Y : List Bool) where
         let e : AskBits 0 n ≡ q = cc in rw (← e) (omega arith, omega arith)
 
     -- a proper answer keeps it
-    opening-ok : (a : Answer) → Proper S (AskOpen (S .h) (S .key)) a → Inv 1 (advance S Y opening a)
-    opening-ok (sizeAnswer n) h = start-ok n h
-    opening-ok (hashAnswer v) h = absurd h
-    opening-ok (syndromeAnswer b v) h = absurd h
-    opening-ok (bitsAnswer l) h = absurd h
-
-    last-ok : (asked n c : ℕ) (segs : List Segment) (rows : List Row) (a : Answer) → Proper S (AskBits 0 n) a → Inv asked (whole n c segs rows) → Inv (asked + 1) (advance S Y (whole n c segs rows) a)
-    last-ok asked n c segs rows (sizeAnswer k) h i = absurd h
-    last-ok asked n c segs rows (hashAnswer v) h i = absurd h
-    last-ok asked n c segs rows (syndromeAnswer b v) h i = absurd h
-    last-ok asked n c segs rows (bitsAnswer l) h i = whole-ok asked n c segs rows l h i
-
     pub advance-ok : (asked : ℕ) (s : Run) (q : Question) (a : Answer) → question S s ≡ some q → Proper S q a → Inv asked s → Inv (asked + 1) (advance S Y s a)
     advance-ok asked opening q a k o h =
         let e : AskOpen (S .h) (S .key) ≡ q = cc in
-        let o′ : Proper S (AskOpen (S .h) (S .key)) a = rw e o in
-        rw h (opening-ok a o′)
+        rw h (start-ok (theSize a) (proper-size S (S .h) (S .key) a (rw (← e) at o)))
     advance-ok asked (working n c segs rows) q a k o h =
         let i = question-inside asked (working n c segs rows) q h k in
         let z = sizes S n (h .0 .size) q a i o in
@@ -182,7 +169,7 @@ module _ (S : Settings) (Y : List Bool) where
         let p = h .1 in let b = h .3 w in
         judge-ok (asked + 1) n (c + sizeOf a) (step S a segs) (rows ++ newRows S a 0 segs) (step-held n segs rows q a k o (h .0)) (omega arith) (omega arith)
     advance-ok asked (whole n c segs rows) q a k o h =
-        let e : AskBits 0 n ≡ q = cc in last-ok asked n c segs rows a (rw e o) h
+        let e : AskBits 0 n ≡ q = cc in whole-ok asked n c segs rows a (rw (← e) at o) h
 
 -- ---- what holds besides if the answers are the holder's
 abbrev pub Truth : Settings → List Bool → Run → Type 0
@@ -213,11 +200,11 @@ module _ (S : Settings) (X Y : List Bool) (L : Limits S) (nX : length X ≤ 6553
   -- the holder's answers are proper
   answer-proper : (n : ℕ) (q : Question) → Inside n q → (n ≡ length X) ⊎ (q ≡ AskOpen (S .h) (S .key)) → Proper S q (told S X q)
   unfolding hashOf
-  answer-proper n (AskOpen h key) i e = nX
-  answer-proper n (AskHash x p) i e = hash-most S (part X x p)
-  answer-proper n (AskSyndrome x p) i (inl e) = let m = syndrome-most (part X x p) in let j = i .1 in let l = part-length S L X x p (omega arith) in (omega arith, hash-most S (part X x p))
+  answer-proper n (AskOpen h key) i e = record { of-kind = refl; values = nX }
+  answer-proper n (AskHash x p) i e = record { of-kind = refl; values = hash-most S (part X x p) }
+  answer-proper n (AskSyndrome x p) i (inl e) = let m = syndrome-most (part X x p) in let j = i .1 in let l = part-length S L X x p (omega arith) in record { of-kind = refl; values = (omega arith, hash-most S (part X x p)) }
   answer-proper n (AskSyndrome x p) i (inr e) = let z : _≡_ {A = ℕ} 0 1 = cc in absurd (omega arith)
-  answer-proper n (AskBits x p) i (inl e) = let j = i .1 in part-length S L X x p (omega arith)
+  answer-proper n (AskBits x p) i (inl e) = let j = i .1 in record { of-kind = refl; values = (part-length S L X x p (omega arith), omega arith) }
   answer-proper n (AskBits x p) i (inr e) = let z : _≡_ {A = ℕ} 0 1 = cc in absurd (omega arith)
 
   true-size : (s : Run) (q : Question) → Truth S X s → question S s ≡ some q → (sizeOfRun s ≡ length X) ⊎ (q ≡ AskOpen (S .h) (S .key))

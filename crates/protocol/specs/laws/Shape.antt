@@ -1,30 +1,30 @@
 -- What the pieces keep, whatever a reader lets through as an answer.
-use mathlib.Core.Path.{_≡_, refl, ap, _∙_}
+use mathlib.Core.Path.{_≡_, refl, ap, _∙_, subst}
 use mathlib.Core.Bool.{Bool}
-use mathlib.Core.List.{List, [], _∷_, _++_}
+use mathlib.Core.List.{List, [], _∷_}
 use mathlib.Core.Option.{Option, none, some}
-use Prim.Native.Nat.{ℕ, zero, suc, _+_, _-_, _^_, max, _≤_, _<_}
+use Prim.Native.Nat.{ℕ, zero, suc, _+_, _-_, max, _≤_, _<_}
 use native.Mathlib.Omega.{arith}
-use lib.ListN.{length, take, drop, length-append}
-use lib.Dec.{eqb, lit≤}
+use lib.ListN.{length, take, drop}
+use lib.Dec.{eqb}
 use Rattle.codes.specs.Repair.{putIn, takeOut}
 use Rattle.codes.specs.laws.RepairLaws.{put-in-length, take-out-length}
-use Rattle.messages.specs.Answers.{Answer, answerBytes, bitsAnswer, hashAnswer, sizeAnswer, syndromeAnswer}
-use Rattle.numbers.specs.laws.NumberLaws.{size-last, size-most, size-short}
-use Rattle.numbers.specs.Numbers.{number}
+use Rattle.messages.specs.Answers.{Answer, bitsAnswer, hashAnswer, sizeAnswer, syndromeAnswer}
+use Rattle.messages.specs.laws.AnswerLaws.{Proper as ProperOf, Values, answer-most, answerKind, bits-answer-size}
+use Rattle.messages.specs.Questions.{questionKind}
+use Rattle.messages.specs.declared.Kind.the-variants.{Bits}
 use Rattle.messages.specs.declared.Question.{Question}
 use Rattle.messages.specs.declared.Question.the-variants.{AskBits, AskHash, AskOpen, AskSyndrome}
 use Rattle.protocol.specs.Anchors.{place}
 use Rattle.protocol.specs.Limits.{Limits}
+use Rattle.protocol.specs.RebuilderCall.{questionLength}
 use Rattle.protocol.specs.laws.Right.{Fit, Fits, StageOk, begin-span, first-ok, later-ok}
 use Rattle.protocol.specs.Runs.{sizeOf, full}
 use Rattle.protocol.specs.laws.SegmentLaws.{Chain}
-use Rattle.protocol.specs.Segments.{Effect, Segment, Stage, anchors, asks, begin, dropped, effect, hashOf, hashing, made, placed, puttingIn, retry, settled, settles, span, takingOut, theBits, theHash, theSyndrome, trial, trialOf, waiting, work}
+use Rattle.protocol.specs.Segments.{Effect, Segment, Stage, anchors, asks, begin, dropped, effect, hashOf, hashing, made, placed, puttingIn, retry, settled, settles, span, takingOut, theBits, theHash, theSize, theSyndrome, trial, trialOf, waiting, work}
 use Rattle.protocol.specs.declared.How.{How}
 use Rattle.protocol.specs.declared.How.the-variants.{ByHash, ByPutIn, ByTakeOut}
 use Rattle.protocol.specs.declared.Settings.{Settings}
-use Rattle.strings.specs.Bits.{pack}
-use Rattle.strings.specs.laws.PackLaws.{length-pack}
 use Rattle.strings.specs.laws.Tests.{by-test}
 
 -- a piece of a reference of n bits, at its start x
@@ -35,28 +35,31 @@ Shape S n x (settled w ys b) = x + length b ≤ n
 
 -- the answer is of the kind asked for, and in range: what a reader lets through
 abbrev pub Proper : Settings → Question → Answer → Type 0
-Proper S (AskOpen h key) (sizeAnswer n) = n ≤ 65536
-Proper S (AskOpen h key) (hashAnswer v) = ⊥
-Proper S (AskOpen h key) (syndromeAnswer a v) = ⊥
-Proper S (AskOpen h key) (bitsAnswer l) = ⊥
-Proper S (AskHash x p) (sizeAnswer n) = ⊥
-Proper S (AskHash x p) (hashAnswer v) = v < 2 ^ S .h
-Proper S (AskHash x p) (syndromeAnswer a v) = ⊥
-Proper S (AskHash x p) (bitsAnswer l) = ⊥
-Proper S (AskSyndrome x p) (sizeAnswer n) = ⊥
-Proper S (AskSyndrome x p) (hashAnswer v) = ⊥
-Proper S (AskSyndrome x p) (syndromeAnswer a v) = (a ≤ p) × (v < 2 ^ S .h)
-Proper S (AskSyndrome x p) (bitsAnswer l) = ⊥
-Proper S (AskBits x p) (sizeAnswer n) = ⊥
-Proper S (AskBits x p) (hashAnswer v) = ⊥
-Proper S (AskBits x p) (syndromeAnswer a v) = ⊥
-Proper S (AskBits x p) (bitsAnswer l) = length l ≡ p
+Proper S q a = ProperOf (questionKind q) (questionLength q) (S .h) a
+
+-- an answer of bits is made of them
+is-bits : (a : Answer) → answerKind a ≡ Bits → a ≡ bitsAnswer (theBits a)
+is-bits (sizeAnswer n) e = cc
+is-bits (hashAnswer v) e = cc
+is-bits (syndromeAnswer s v) e = cc
+is-bits (bitsAnswer l) e = refl
+
+pub size-bits : (l : List Bool) → sizeOf (bitsAnswer l) ≡ full (length l)
+unfolding sizeOf
+size-bits l = bits-answer-size l
+
+-- the values of a proper answer to each kind of question that is looked into
+pub proper-size : (S : Settings) (h key : ℕ) (a : Answer) → Proper S (AskOpen h key) a → theSize a ≤ 65536
+proper-size S h key (sizeAnswer n) p = p .values
+proper-size S h key (hashAnswer v) p = omega arith
+proper-size S h key (syndromeAnswer s v) p = omega arith
+proper-size S h key (bitsAnswer l) p = omega arith
 
 pub proper-bits : (S : Settings) (x p : ℕ) (a : Answer) → Proper S (AskBits x p) a → length (theBits a) ≡ p
-proper-bits S x p (sizeAnswer n) h = absurd h
-proper-bits S x p (hashAnswer v) h = absurd h
-proper-bits S x p (syndromeAnswer s v) h = absurd h
-proper-bits S x p (bitsAnswer l) h = h
+proper-bits S x p a h = subst (Values p (S .h)) (is-bits a (h .of-kind)) (h .values) .0
+
+pub proper-full : (S : Settings) (x p : ℕ) (a : Answer) → Proper S (AskBits x p) a → sizeOf a ≡ full p
+proper-full S x p a h = ap sizeOf (is-bits a (h .of-kind)) ∙ size-bits (theBits a) ∙ ap full (proper-bits S x p a h)
 
 -- a range of n bits
 abbrev pub Inside : ℕ → Question → Type 0
@@ -65,36 +68,16 @@ Inside n (AskHash x p) = (0 < p) × (x + p ≤ n)
 Inside n (AskSyndrome x p) = (0 < p) × (x + p ≤ n)
 Inside n (AskBits x p) = (0 < p) × (x + p ≤ n)
 
--- ---- bytes
+inside-length : (n : ℕ) (q : Question) → Inside n q → questionLength q ≤ n
+inside-length n (AskOpen h key) i = omega arith
+inside-length n (AskHash x p) i = let j = i .1 in omega arith
+inside-length n (AskSyndrome x p) i = let j = i .1 in omega arith
+inside-length n (AskBits x p) i = let j = i .1 in omega arith
 
--- an answer's bytes
-size-number : (k v : ℕ) → k < 128 → length (number k ++ number v) ≡ 1 + length (number v)
-size-number k v h = length-append (number k) (number v) ∙ ap (λ (n : ℕ). n + length (number v)) (size-last k h)
-
-pub size-bits : (l : List Bool) → sizeOf (bitsAnswer l) ≡ full (length l)
-unfolding sizeOf answerBytes
-size-bits l = let g = length-append (number 3) (pack l) in let b = size-last 3 (lit≤ tt) in let c = length-pack l in omega arith
-
+-- a proper answer's bytes
 pub sizes : (S : Settings) (n : ℕ) → n ≤ 65536 → (q : Question) (a : Answer) → Inside n q → Proper S q a → sizeOf a ≤ max 9 (full n)
-unfolding sizeOf answerBytes
-sizes S n h (AskOpen k key) (sizeAnswer v) i p = let e = size-most v in let f = size-number 0 v (lit≤ tt) in omega arith
-sizes S n h (AskOpen k key) (hashAnswer v) i p = absurd p
-sizes S n h (AskOpen k key) (syndromeAnswer s v) i p = absurd p
-sizes S n h (AskOpen k key) (bitsAnswer l) i p = absurd p
-sizes S n h (AskHash x q) (sizeAnswer v) i p = absurd p
-sizes S n h (AskHash x q) (hashAnswer v) i p = let e = size-most v in let f = size-number 1 v (lit≤ tt) in omega arith
-sizes S n h (AskHash x q) (syndromeAnswer s v) i p = absurd p
-sizes S n h (AskHash x q) (bitsAnswer l) i p = absurd p
-sizes S n h (AskSyndrome x q) (sizeAnswer v) i p = absurd p
-sizes S n h (AskSyndrome x q) (hashAnswer v) i p = absurd p
-sizes S n h (AskSyndrome x q) (syndromeAnswer s v) i p =
-    let j = i .1 in let k = p .0 in let e = size-most v in let f = size-short s (omega arith) in
-    let g = length-append (number 2) (number s ++ number v) in let b = size-last 2 (lit≤ tt) in let c = length-append (number s) (number v) in omega arith
-sizes S n h (AskSyndrome x q) (bitsAnswer l) i p = absurd p
-sizes S n h (AskBits x q) (sizeAnswer v) i p = absurd p
-sizes S n h (AskBits x q) (hashAnswer v) i p = absurd p
-sizes S n h (AskBits x q) (syndromeAnswer s v) i p = absurd p
-sizes S n h (AskBits x q) (bitsAnswer l) i p = let j = i .1 in let g = length-append (number 3) (pack l) in let b = size-last 3 (lit≤ tt) in let c = length-pack l in omega arith
+unfolding sizeOf
+sizes S n h q a i p = let l = inside-length n q i in let e = answer-most (questionLength q) (S .h) a (omega arith) (p .values) in omega arith
 
 -- ---- what an answer makes of a waiting piece
 module _ (S : Settings) (L : Limits S) (n : ℕ) where

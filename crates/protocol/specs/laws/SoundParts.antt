@@ -135,6 +135,7 @@ pub record OpeningIs (st : Rebuilder) : Type 0 where
   pub answered : st .answered ≡ 0
   pub counted : st .counted ≡ 0
   pub rows : st .rows ≡ 0
+  pub stage : st .stage ≡ 0
   pub waiting : st .waiting ≡ 0
 
 pub opening-is : (st : Rebuilder) → openingSound st ≡ true → OpeningIs st
@@ -145,7 +146,7 @@ opening-is st e =
     let c = both (eqb (st .counted) 0) _ (b .1) in
     let d = both (eqb (st .rows) 0) _ (c .1) in
     let f = both (eqb (st .stage) 0) _ (d .1) in
-    record { answered = eqb-true (st .answered) 0 (b .0); counted = eqb-true (st .counted) 0 (c .0); rows = eqb-true (st .rows) 0 (d .0); waiting = eqb-true (st .waiting) 0 (f .1) }
+    record { answered = eqb-true (st .answered) 0 (b .0); counted = eqb-true (st .counted) 0 (c .0); rows = eqb-true (st .rows) 0 (d .0); stage = eqb-true (st .stage) 0 (f .0); waiting = eqb-true (st .waiting) 0 (f .1) }
 
 -- ---- the leftmost piece
 pub top-most : (st : Rebuilder) → topFits st ≡ true → st .stage ≤ 4

@@ -1,5 +1,5 @@
 -- Every state from a call is sound: each step on a sound state gives one.
-use mathlib.Core.Path.{_≡_, refl, ap, _∙_}
+use mathlib.Core.Path.{_≡_, refl, _∙_}
 use mathlib.Core.Bool.{Bool, true, false, cond, _&&_}
 use mathlib.Core.List.{List, [], _∷_}
 use mathlib.Core.Option.{some}
@@ -9,9 +9,8 @@ use native.Mathlib.Omega.{arith}
 use lib.ListN.{replicate, length-replicate, length, getD}
 use lib.Dec.{ltb, eqb, lit≤}
 use borrow.Author.Tests.{eqb-false, eq-eqb, ltb-true, ltb-false, ne-eqb}
-use Rattle.messages.specs.Answers.{Answer, bitsAnswer, hashAnswer, sizeAnswer, syndromeAnswer}
+use Rattle.messages.specs.Answers.{Answer}
 use Rattle.messages.specs.declared.Question.{Question}
-use Rattle.messages.specs.declared.Question.the-variants.{AskBits, AskOpen}
 use Rattle.protocol.specs.Anchors.{fits}
 use Rattle.protocol.specs.laws.Counts.{Sane, cut, deep, deeper, sane}
 use Rattle.protocol.specs.Soundness.{bound, asksLeft, openingSound, rowsLeft, sound, stageFits, topFits}
@@ -21,7 +20,7 @@ use Rattle.protocol.specs.RebuilderCall.{counting, effectStep, freshRebu
 use Rattle.protocol.specs.laws.Right.{StageOk}
 use Rattle.protocol.specs.Runs.{blank, sizeOf, full}
 use Rattle.protocol.specs.Segments.{Effect, Stage, asks, effect, settles, splits, stays, theBits, theSize, waiting}
-use Rattle.protocol.specs.laws.Shape.{Inside, Proper, proper-bits, size-bits, sizes}
+use Rattle.protocol.specs.laws.Shape.{Inside, Proper, proper-full, proper-size, sizes}
 use Rattle.protocol.specs.laws.SoundLaws.{Ordered, first-fits, fits-stage, next-fits, next-later, ordered-from}
 use Rattle.protocol.specs.States.{firstNumber, held, leftPiece, noPiece, planned, popped, pushed, restaged, retried, rightPiece, splitAt, top}
 use Rattle.protocol.specs.laws.Steps.{step-opening, step-pieces, step-whole}
@@ -239,12 +238,6 @@ module _ (st : Rebuilder) (arr : length (st .pieces) ≡ 32) (f : Framed st) (k 
 abbrev Sound′ : Rebuilder → Type 0
 Sound′ s = (sound s ≡ true) × (length (s .pieces) ≡ 32)
 
-size-answer : (S : Settings) (h key : ℕ) (a : Answer) → Proper S (AskOpen h key) a → theSize a ≤ 65536
-size-answer S h key (sizeAnswer n) p = p
-size-answer S h key (hashAnswer v) p = absurd p
-size-answer S h key (syndromeAnswer b v) p = absurd p
-size-answer S h key (bitsAnswer l) p = absurd p
-
 zero-blank : (w : ℕ) → Blank (replicate 32 noPiece) w
 zero-blank w i a b = lib.ListN.getD-replicate 32 i noPiece noPiece b
 
@@ -353,18 +346,12 @@ step-sound st y q a size arr s k o sz =
     go (f .0) (phase-of st q (f .1) k)
   where
     go : Framed st → PhaseOf st q → Sound′ (stepOf st y size a .state)
-    go f (isOpening p i e) = rw (step-opening st y size a p) (opening-sound st (theSize a) arr f i (size-answer (st .settings) (st .settings .h) (st .settings .key) a (rw e o)))
+    go f (isOpening p i e) = rw (step-opening st y size a p) (opening-sound st (theSize a) arr f i (proper-size (st .settings) (st .settings .h) (st .settings .key) a (rw (← e) at o)))
     go f (isPieces p i w e) =
         let ti = top-is st (i .stack) w in
         let ins : Inside (st .n) q = rw e at (ask-inside st (f .limits) ti) in
         let sh = sizes (st .settings) (st .n) (f .size) q a ins o in
         rw (step-pieces st y size a p) (piece-sound st y a size arr f i w (omega arith))
     go f (isWhole p i e) =
-        let pb = proper-bits (st .settings) 0 (st .n) a (rw e o) in
-        rw (step-whole st y size a (omega arith)) (whole-sound st size (theBits a) f i (let z = whole-size a (rw e o) in omega arith))
-      where
-        whole-size : (a : Answer) → Proper (st .settings) (AskBits 0 (st .n)) a → sizeOf a ≡ full (st .n)
-        whole-size (sizeAnswer n) p = absurd p
-        whole-size (hashAnswer v) p = absurd p
-        whole-size (syndromeAnswer b v) p = absurd p
-        whole-size (bitsAnswer l) p = size-bits l ∙ ap full p
+        let z = proper-full (st .settings) 0 (st .n) a (rw (← e) at o) in
+        rw (step-whole st y size a (omega arith)) (whole-sound st size (theBits a) f i (omega arith))

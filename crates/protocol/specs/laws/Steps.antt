@@ -223,7 +223,7 @@ module _ (S : Settings) (Y : List Bool) (L : Limits S) (y : List ℕ) (yr : rang
       let hu = h .used in
       let rc = rows-cost S 0 segs in let ra = i .0 .rowsAre (λ r. 1) in let rl = rows-length rows in let rf = i .0 .rowsFew in
       let eq : AskBits 0 n ≡ q = cc in
-      let pb : length (theBits a) ≡ n = proper-bits S 0 n a (rw eq o) in
+      let pb : length (theBits a) ≡ n = proper-bits S 0 n a (rw (← eq) at o) in
       let rm = room .1 in
       let e : stepStore S Y (storeOf (whole n c segs rows)) a ≡ store atPieces (st .n) (st .counted + size) hashing [] (theBits a) (row 0 (st .n) ByBits ∷ []) =
       (λ j. store atPieces (en j) (ec j + sym sz j) hashing [] (theBits a) (row 0 (en j) ByBits ∷ [])) in

@@ -1,6 +1,6 @@
 -- Laws for the proofs of the rebuilder's call and start: which question waits, and what was read as its answer.
 use mathlib.Core.Path.{_≡_, refl, sym, ap, ap₂, _∙_, subst}
-use mathlib.Core.Bool.{Bool, true, false, cond, _&&_, _||_}
+use mathlib.Core.Bool.{Bool, true, false, _&&_, _||_}
 use mathlib.Core.Logic.{_⊎_, inl, inr}
 use mathlib.Core.List.{List, []}
 use mathlib.Core.Option.{Option, some}
@@ -9,7 +9,7 @@ use native.Mathlib.Omega.{arith}
 use lib.ListN.{length, take, drop, length-drop}
 use lib.Seq.{take-all}
 use lib.Dec.{leb, eqb}
-use borrow.Author.Tests.{le-leb, lt-leb, leb-true, eqb-true, eq-eqb, ne-eqb, eqb-false}
+use borrow.Author.Tests.{le-leb, lt-leb, leb-true, leb-false, eqb-true, eq-eqb, ne-eqb, eqb-false}
 use Rattle.strings.specs.laws.Tests.{by-test, and-left, and-right, true-false}
 use Rattle.strings.specs.Bits.{range, writeBits, cleared, bytesFor, Part, atFront}
 use Rattle.strings.specs.StringRule.{stringRule}
@@ -19,6 +19,7 @@ use Rattle.strings.specs.laws.PackLaws.{Bytes}
 use Rattle.strings.specs.declared.Refusal.{Refusal}
 use Rattle.strings.specs.declared.Refusal.the-variants.{BadSetting, BadString, OutOfTurn, NoRoom}
 use Rattle.messages.specs.declared.Kind.{Kind}
+use Rattle.messages.specs.declared.Kind.the-variants.{Open, Hash, Syndrome, Bits}
 use Rattle.messages.specs.declared.WriteResult.{WriteResult}
 use Rattle.messages.specs.declared.WriteResult.the-variants.{Written, TooShort}
 use Rattle.messages.specs.Writing.{leaves, putFront}
@@ -30,15 +31,14 @@ use Rattle.messages.specs.declared.AnswerRead.the-variants.{IsSize, IsHash, IsS
 use Rattle.messages.specs.Questions.{questionKind, questionBytes}
 use Rattle.codes.specs.Entries.{value}
 use Rattle.messages.specs.Answers.{Answer, sizeAnswer, hashAnswer, syndromeAnswer, bitsAnswer, readAnswer, answerValue}
-use Rattle.messages.specs.laws.AnswerLaws.{answer-form, bits-read, BitsAt, range-rest}
+use Rattle.messages.specs.laws.AnswerLaws.{answerKind, answer-form, bits-read, BitsAt, range-rest}
 use Rattle.protocol.specs.declared.Settings.{Settings}
 use Rattle.protocol.specs.declared.How.the-variants.{ByBits}
-use Rattle.protocol.specs.declared.Piece.{Piece}
 use Rattle.protocol.specs.declared.Rebuilder.{Rebuilder}
 use Rattle.protocol.specs.declared.SheetChange.the-variants.{NoRow, OneRow}
 use Rattle.protocol.specs.Limits.{withinLimits}
 use Rattle.protocol.specs.Segments.{row}
-use Rattle.protocol.specs.Runs.{full, sizeOf}
+use Rattle.protocol.specs.Runs.{sizeOf}
 use Rattle.protocol.specs.laws.Shape.{Proper, Inside, sizes, size-bits}
 use Rattle.protocol.specs.laws.SoundLaws.{limits-is}
 use Rattle.protocol.specs.States.{top, planned, askFor}
@@ -46,7 +46,6 @@ use Rattle.protocol.specs.Soundness.{sound, stageFits, openingSound, phaseSound
 use Rattle.protocol.specs.laws.SoundParts.{Framed, sound-is, phase-whole, OpeningIs, opening-is, WholeIs, whole-is, PiecesIs, top-is, ask-inside, PhaseOf, isOpening, isPieces, isWhole, phase-of}
 use Rattle.protocol.specs.laws.SoundSteps.{fresh-sound, opening-sound, whole-sound}
 use Rattle.protocol.specs.laws.Steps.{step-opening, step-whole}
-use Rattle.protocol.specs.laws.Asking.{proper-of}
 use Rattle.protocol.specs.RebuilderCall.{Taken, refuses, openingStep, wholeStep, stepOf, questionLength, Rooms, roomFor, hears, awaits, rebuilderCall, Started, starts, startDeclines, rebuilderStart, freshRebuilder}
 use Rattle.rebuilder.specs.declared.RebuilderOut.{RebuilderOut}
 use Rattle.rebuilder.specs.declared.StartAnswer.the-variants.{Begun, NotBegun}
@@ -139,42 +138,39 @@ module _ (st : Rebuilder) where
       → x ≡ leavesRebuilder st s q (stepTaken (stepOf st y size (bitsAnswer (range bits 0 b))))
   due-said y bits s q size e f = f ∙ ap (λ (i : ℕ). leavesRebuilder st s q (stepTaken (stepOf st y size (bitsAnswer (range bits 0 i))))) (sym e)
 
--- ---- which stage an answer is for
-no-size : (S : Settings) (m j : ℕ) (t : Piece) (n : ℕ) → Proper S (askFor m j t) (sizeAnswer n) → ⊥
-unfolding askFor
-no-size S m j t n =
-    by-test (λ (q : Question). Proper S q (sizeAnswer n) → ⊥) (eqb j 0)
-    (λ e. by-test (λ (q : Question). Proper S q (sizeAnswer n) → ⊥) (eqb (t .q) (t .p)) {a = AskHash (t .x) (t .p)} {b = AskSyndrome (t .x) (t .p)} (λ f z. z) (λ f z. z))
-    (λ e. by-test (λ (q : Question). Proper S q (sizeAnswer n) → ⊥) (leb 4 j) {a = AskBits (t .x) (t .p)} (λ f z. z) (λ f z. z))
+-- ---- which phase and stage ask for a kind
+-- a question for the leftmost piece
+record ForPiece (st : Rebuilder) (q : Question) : Type 0 where
+  phase : st .phase ≡ 1
+  pieces : PiecesIs st
+  some : 0 < st .waiting
+  asks : askFor (st .settings .m) (st .stage) (top st) ≡ q
 
-hash-stage : (S : Settings) (m j : ℕ) (t : Piece) (v : ℕ) → Proper S (askFor m j t) (hashAnswer v) → (j ≡ 0) × (t .q ≡ t .p)
-unfolding askFor
-hash-stage S m j t v =
-    by-test (λ (q : Question). Proper S q (hashAnswer v) → (j ≡ 0) × (t .q ≡ t .p)) (eqb j 0)
-    (λ e. by-test (λ (q : Question). Proper S q (hashAnswer v) → (j ≡ 0) × (t .q ≡ t .p)) (eqb (t .q) (t .p)) {a = AskHash (t .x) (t .p)} {b = AskSyndrome (t .x) (t .p)}
-    (λ f z. (eqb-true j 0 e, eqb-true (t .q) (t .p) f)) (λ f z. absurd z))
-    (λ e. by-test (λ (q : Question). Proper S q (hashAnswer v) → (j ≡ 0) × (t .q ≡ t .p)) (leb 4 j) {a = AskBits (t .x) (t .p)} (λ f z. absurd z) (λ f z. absurd z))
+-- what holds of a state whose question q is of a kind and for len bits
+abbrev KindDue : Rebuilder → Question → ℕ → Kind → Type 0
+KindDue st q len Open = st .phase ≡ 0
+KindDue st q len Hash = ForPiece st q × (st .stage ≡ 0) × (top st .q ≡ top st .p)
+KindDue st q len Syndrome = ForPiece st q × (st .stage ≡ 0) × (top st .q ≡ top st .p → ⊥)
+KindDue st q len Bits = (dueLength st ≡ len) × ((st .phase ≡ 2) ⊎ (ForPiece st q × (0 < st .stage)))
 
-syndrome-stage : (S : Settings) (m j : ℕ) (t : Piece) (a v : ℕ) → Proper S (askFor m j t) (syndromeAnswer a v) → (j ≡ 0) × (t .q ≡ t .p → ⊥)
-unfolding askFor
-syndrome-stage S m j t a v =
-    by-test (λ (q : Question). Proper S q (syndromeAnswer a v) → (j ≡ 0) × (t .q ≡ t .p → ⊥)) (eqb j 0)
-    (λ e. by-test (λ (q : Question). Proper S q (syndromeAnswer a v) → (j ≡ 0) × (t .q ≡ t .p → ⊥)) (eqb (t .q) (t .p)) {a = AskHash (t .x) (t .p)} {b = AskSyndrome (t .x) (t .p)}
-    (λ f z. absurd z) (λ f z. (eqb-true j 0 e, eqb-false (t .q) (t .p) f)))
-    (λ e. by-test (λ (q : Question). Proper S q (syndromeAnswer a v) → (j ≡ 0) × (t .q ≡ t .p → ⊥)) (leb 4 j) {a = AskBits (t .x) (t .p)} (λ f z. absurd z) (λ f z. absurd z))
+abbrev AskDue : Rebuilder → (q x : Question) → Type 0
+AskDue st q x = KindDue st q (questionLength x) (questionKind x)
 
-bits-stage : (S : Settings) (m j : ℕ) (t : Piece) (l : List Bool) → Proper S (askFor m j t) (bitsAnswer l) → (0 < j) × (length l ≡ cond (leb 4 j) (t .p) m)
+piece-due : (st : Rebuilder) (q : Question) → ForPiece st q → AskDue st q (askFor (st .settings .m) (st .stage) (top st))
 unfolding askFor
-bits-stage S m j t l =
-    by-test (λ (q : Question). Proper S q (bitsAnswer l) → (0 < j) × (length l ≡ cond (leb 4 j) (t .p) m)) (eqb j 0)
-    (λ e. by-test (λ (q : Question). Proper S q (bitsAnswer l) → (0 < j) × (length l ≡ cond (leb 4 j) (t .p) m)) (eqb (t .q) (t .p)) {a = AskHash (t .x) (t .p)} {b = AskSyndrome (t .x) (t .p)}
-    (λ f z. absurd z) (λ f z. absurd z))
-    (λ e. let n = eqb-false j 0 e in
-    by-test (λ (q : Question). Proper S q (bitsAnswer l) → (0 < j) × (length l ≡ cond (leb 4 j) (t .p) m)) (leb 4 j) {a = AskBits (t .x) (t .p)}
-    (λ f z. (pos n, rw f z)) (λ f z. (pos n, rw f z)))
-  where
-    pos : (j ≡ 0 → ⊥) → 0 < j
-    pos n = omega arith
+piece-due st q k =
+    let one = k .phase in
+    by-test (AskDue st q) (eqb (st .stage) 0)
+    (λ e. by-test (AskDue st q) (eqb (top st .q) (top st .p)) {a = AskHash (top st .x) (top st .p)} {b = AskSyndrome (top st .x) (top st .p)}
+    (λ f. (k, eqb-true (st .stage) 0 e, eqb-true (top st .q) (top st .p) f)) (λ f. (k, eqb-true (st .stage) 0 e, eqb-false (top st .q) (top st .p) f)))
+    (λ e. let n : st .stage ≡ 0 → ⊥ = eqb-false (st .stage) 0 e in
+    by-test (AskDue st q) (leb 4 (st .stage)) {a = AskBits (top st .x) (top st .p)}
+    (λ f. (due-piece st (λ z. omega arith) (leb-true 4 (st .stage) f), inr (k, omega arith))) (λ f. (due-anchor st (λ z. omega arith) (leb-false 4 (st .stage) f), inr (k, omega arith))))
+
+kind-due : (st : Rebuilder) (q : Question) → PhaseOf st q → AskDue st q q
+kind-due st q (isOpening p i e) = rw (← e) p
+kind-due st q (isPieces p i w e) = subst (AskDue st q) e (piece-due st q (record { phase = p; pieces = i; some = w; asks = e }))
+kind-due st q (isWhole p i e) = rw (← e) (due-whole st p, inl p)
 
 one-apart : (S : Settings) (p q j : ℕ) → stageFits S p q j ≡ true → j ≡ 0 → (q ≡ p → ⊥) → OneApart p q
 unfolding stageFits
@@ -200,87 +196,71 @@ module _ (st : Rebuilder) (msg : List ℕ) (len : ℕ) (read : AnswerRead) (d : 
   framed-now : Framed st
   framed-now = sound-is st (d .sound-now) .0
 
-  phase-now : PhaseOf st (d .question)
-  phase-now = phase-of st (d .question) (sound-is st (d .sound-now) .1) (d .asked)
-
   module _ (a : Answer) (v : answerValue msg len read ≡ some a) where
     read-value : answerValue msg (questionLength (d .question)) (readAnswer (questionKind (d .question)) (questionLength (d .question)) (st .settings .h) msg) ≡ some a
     read-value = ap₂ (answerValue msg) (sym (d .asked-length)) (sym (d .read-is)) ∙ v
 
     proper-now : Proper (st .settings) (d .question) a
-    proper-now = proper-of (st .settings) (d .question) a (answer-form (questionKind (d .question)) (questionLength (d .question)) (st .settings .h) msg a read-value .proper)
+    proper-now = answer-form (questionKind (d .question)) (questionLength (d .question)) (st .settings .h) msg a read-value .proper
+
+    kind-now : KindDue st (d .question) (questionLength (d .question)) (answerKind a)
+    kind-now = rw (proper-now .of-kind) (kind-due st (d .question) (phase-of st (d .question) (sound-is st (d .sound-now) .1) (d .asked)))
 
     size-now : length msg ≡ sizeOf a
     unfolding sizeOf
     size-now = ap length (answer-form (questionKind (d .question)) (questionLength (d .question)) (st .settings .h) msg a read-value .bytes (d .bytes))
 
     -- for the leftmost piece
-    piece-acting : st .phase ≡ 1 → PiecesIs st → 0 < st .waiting → askFor (st .settings .m) (st .stage) (top st) ≡ d .question → (room : ℕ) → 8 ≤ room → Acting st (length msg) room
-    piece-acting p i w e room h =
-        let ti = top-is st (i .stack) w in
-        let ins : Inside (st .n) (d .question) = rw e at (ask-inside st (framed-now .limits) ti) in
+    piece-acting : ForPiece st (d .question) → (room : ℕ) → 8 ≤ room → Acting st (length msg) room
+    piece-acting k room h =
+        let ti = top-is st (k .pieces .stack) (k .some) in
+        let ins : Inside (st .n) (d .question) = rw (k .asks) at (ask-inside st (framed-now .limits) ti) in
         let sh = sizes (st .settings) (st .n) (framed-now .size) (d .question) a ins proper-now in
         let z = size-now in
-        record { sound-now = d .sound-now; array = d .array; phase = p; some = w; short = omega arith; enough = h }
+        record { sound-now = d .sound-now; array = d .array; phase = k .phase; some = k .some; short = omega arith; enough = h }
 
   pub heard-size : (n : ℕ) → read ≡ IsSize n → (room : ℕ) → 8 ≤ room → Opening st n room
-  heard-size n f room h = go phase-now (proper-now (sizeAnswer n) (ap (answerValue msg len) f))
-    where
-      go : PhaseOf st (d .question) → Proper (st .settings) (d .question) (sizeAnswer n) → Opening st n room
-      go (isOpening p i e) z = let y : n ≤ 65536 = rw (← e) at z in record { sound-now = d .sound-now; array = d .array; phase = p; small = y; enough = h }
-      go (isPieces p i w e) z = absurd (no-size (st .settings) (st .settings .m) (st .stage) (top st) n (rw (← e) at z))
-      go (isWhole p i e) z = absurd (rw (← e) at z)
+  heard-size n f room h =
+      let v = ap (answerValue msg len) f in
+      record { sound-now = d .sound-now; array = d .array; phase = kind-now (sizeAnswer n) v; small = proper-now (sizeAnswer n) v .values; enough = h }
 
   pub heard-hash : (v : ℕ) → read ≡ IsHash v → (room : ℕ) → 8 ≤ room → Acting st (length msg) room × ((st .stage ≡ 0) × (top st .q ≡ top st .p))
-  heard-hash v f room h = go phase-now (proper-now (hashAnswer v) (ap (answerValue msg len) f))
-    where
-      go : PhaseOf st (d .question) → Proper (st .settings) (d .question) (hashAnswer v) → Acting st (length msg) room × ((st .stage ≡ 0) × (top st .q ≡ top st .p))
-      go (isOpening p i e) z = absurd (rw (← e) at z)
-      go (isPieces p i w e) z = (piece-acting (hashAnswer v) (ap (answerValue msg len) f) p i w e room h, hash-stage (st .settings) (st .settings .m) (st .stage) (top st) v (rw (← e) at z))
-      go (isWhole p i e) z = absurd (rw (← e) at z)
+  heard-hash v f room h =
+      let w = ap (answerValue msg len) f in
+      let k = kind-now (hashAnswer v) w in
+      (piece-acting (hashAnswer v) w (k .0) room h, (k .1, k .2))
 
   pub heard-syndrome : (a v : ℕ) → read ≡ IsSyndrome a v → (room : ℕ) → 8 ≤ room → Acting st (length msg) room × ((st .stage ≡ 0) × OneApart (top st .p) (top st .q))
-  heard-syndrome a v f room h = go phase-now (proper-now (syndromeAnswer a v) (ap (answerValue msg len) f))
-    where
-      go : PhaseOf st (d .question) → Proper (st .settings) (d .question) (syndromeAnswer a v) → Acting st (length msg) room × ((st .stage ≡ 0) × OneApart (top st .p) (top st .q))
-      go (isOpening p i e) z = absurd (rw (← e) at z)
-      go (isPieces p i w e) z =
-          let s = syndrome-stage (st .settings) (st .settings .m) (st .stage) (top st) a v (rw (← e) at z) in
-          (piece-acting (syndromeAnswer a v) (ap (answerValue msg len) f) p i w e room h, (s .0, one-apart (st .settings) (top st .p) (top st .q) (st .stage) (top-is st (i .stack) w .stage) (s .0) (s .1)))
-      go (isWhole p i e) z = absurd (rw (← e) at z)
+  heard-syndrome a v f room h =
+      let w = ap (answerValue msg len) f in
+      let k = kind-now (syndromeAnswer a v) w in
+      let t = top-is st (k .0 .pieces .stack) (k .0 .some) in
+      (piece-acting (syndromeAnswer a v) w (k .0) room h, (k .1, one-apart (st .settings) (top st .p) (top st .q) (st .stage) (t .stage) (k .1) (k .2)))
 
-  bits-of : (at : ℕ) → read ≡ IsBits at → Proper (st .settings) (d .question) (bitsAnswer (range msg (8 * at) len))
-  bits-of at f = proper-now (bitsAnswer (range msg (8 * at) len)) (ap (answerValue msg len) f)
+  -- the bits that were read
+  module _ (at : ℕ) (f : read ≡ IsBits at) where
+    abbrev bitsHeard : Answer
+    bitsHeard = bitsAnswer (range msg (8 * at) len)
 
-  pub heard-bits : (at : ℕ) → read ≡ IsBits at → (room : ℕ) → 8 ≤ room → BitsDue st (length msg) room × (dueLength st ≡ len)
-  heard-bits at f room h = go phase-now (bits-of at f)
-    where
-      go : PhaseOf st (d .question) → Proper (st .settings) (d .question) (bitsAnswer (range msg (8 * at) len)) → BitsDue st (length msg) room × (dueLength st ≡ len)
-      go (isOpening p i e) z = absurd (rw (← e) at z)
-      go (isPieces p i w e) z =
-          let s = bits-stage (st .settings) (st .settings .m) (st .stage) (top st) (range msg (8 * at) len) (rw (← e) at z) in
-          let y = s .1 in
-          let r = range-length msg (8 * at) len in (
-            record { phases = inr (piece-acting (bitsAnswer (range msg (8 * at) len)) (ap (answerValue msg len) f) p i w e room h, s .0) },
-            rw (ne-eqb (st .phase) 2 (λ u. omega arith)) (sym y ∙ r),
-          )
-      go (isWhole p i e) z =
-          let y : length (range msg (8 * at) len) ≡ st .n = rw (← e) at z in
-          let r = range-length msg (8 * at) len in
-          let q = size-now (bitsAnswer (range msg (8 * at) len)) (ap (answerValue msg len) f) in
-          let u = size-bits (range msg (8 * at) len) ∙ ap full y in (
-            record { phases = inl record { sound-now = d .sound-now; phase = p; short = omega arith; enough = h } },
-            due-whole st p ∙ sym y ∙ r,
-          )
+    bits-due : (dueLength st ≡ len) × ((st .phase ≡ 2) ⊎ (ForPiece st (d .question) × (0 < st .stage)))
+    bits-due = rw (d .asked-length) (kind-now bitsHeard (ap (answerValue msg len) f))
 
-  bits-in : (q : Question) (l : List Bool) → Proper (st .settings) q (bitsAnswer l) → (at : ℕ) → readAnswer (questionKind q) (questionLength q) (st .settings .h) msg ≡ IsBits at → BitsAt (questionLength q) msg at
-  bits-in (AskOpen h key) l z at e = absurd z
-  bits-in (AskHash x p) l z at e = absurd z
-  bits-in (AskSyndrome x p) l z at e = absurd z
-  bits-in (AskBits x p) l z at e = bits-read p (st .settings .h) msg at e
+    pub heard-bits : (room : ℕ) → 8 ≤ room → BitsDue st (length msg) room × (dueLength st ≡ len)
+    heard-bits room h = (record { phases = go (bits-due .1) }, bits-due .0)
+      where
+        go : (st .phase ≡ 2) ⊎ (ForPiece st (d .question) × (0 < st .stage)) → (WholeDue st (length msg) room) ⊎ (Acting st (length msg) room × (0 < st .stage))
+        go (inl p) =
+            let e : st .n ≡ len = sym (due-whole st p) ∙ bits-due .0 in
+            let r = range-length msg (8 * at) len in
+            let q = size-now bitsHeard (ap (answerValue msg len) f) in
+            let u = size-bits (range msg (8 * at) len) in
+            inl record { sound-now = d .sound-now; phase = p; short = omega arith; enough = h }
+        go (inr k) = inr (piece-acting bitsHeard (ap (answerValue msg len) f) (k .0) room h, k .1)
 
-  bits-there : (at : ℕ) → read ≡ IsBits at → BitsAt len msg at
-  bits-there at f = rw (d .asked-length) (bits-in (d .question) (range msg (8 * at) len) (bits-of at f) at (sym (d .read-is) ∙ f))
+    bits-there : BitsAt len msg at
+    bits-there =
+        let k = proper-now bitsHeard (ap (answerValue msg len) f) .of-kind in
+        rw (d .asked-length) (bits-read (questionLength (d .question)) (st .settings .h) msg at (ap (λ (x : Kind). readAnswer x (questionLength (d .question)) (st .settings .h) msg) k ∙ sym (d .read-is) ∙ f))
 
   pub bits-inside : (at : ℕ) → read ≡ IsBits at → at ≤ length msg
   bits-inside at f = bits-there at f .inside

@@ -6,9 +6,9 @@ use mathlib.Core.List.{List, [], _∷_}
 use mathlib.Core.Option.{Option, none, some}
 use Prim.Native.Nat.{ℕ, zero, suc, _+_, _-_, _*_, max, _≤_, _<_}
 use native.Mathlib.Omega.{arith}
-use lib.ListN.{length, length-append}
+use lib.ListN.{length}
 use lib.Dec.{leb, eqb, lit≤}
-use borrow.Author.Tests.{le-ltb, eq-eqb, ne-eqb}
+use borrow.Author.Tests.{eq-eqb, ne-eqb}
 use Rattle.strings.specs.laws.Tests.{by-test}
 use Rattle.strings.specs.Bits.{range, writeBits, Part, atFront}
 use Rattle.strings.specs.laws.RangeLaws.{range-length}
@@ -25,10 +25,7 @@ use Rattle.messages.specs.declared.Question.{Question}
 use Rattle.messages.specs.declared.Question.the-variants.{AskHash, AskSyndrome, AskBits}
 use Rattle.messages.specs.declared.WriteResult.{WriteResult}
 use Rattle.messages.specs.declared.WriteResult.the-variants.{Written, TooShort}
-use Rattle.numbers.specs.Numbers.{number}
-use Rattle.messages.specs.Kinds.{kindNumber}
-use Rattle.messages.specs.laws.KindLaws.{kind-size}
-use Rattle.messages.specs.Questions.{questionBytes, questionKind}
+use Rattle.messages.specs.Questions.{questionBytes}
 use Rattle.messages.specs.laws.QuestionLaws.{InRange, question-size, question-some}
 use Rattle.codes.specs.Entries.{Answer as Outcome, value}
 use Rattle.messages.specs.Answers.{Answer, hashAnswer, syndromeAnswer, bitsAnswer}
