@@ -5,6 +5,7 @@ mod sheet;
 mod state;
 
 pub use sheet::apply_change;
+pub use sheet::read_row;
 pub use state::read_holder;
 pub use state::read_rebuilder;
 pub use state::write_holder;

@@ -31,7 +31,7 @@ pub record RowFits (r : Row) : Type 0 where
   pub len-fits : r .len < 4294967296
   pub how-fits : r .how < 4294967296
 
-row-same : {a b c a′ b′ c′ : ℕ} → a ≡ a′ → b ≡ b′ → c ≡ c′ → _≡_ {A = Row} (record { start = a; len = b; how = c }) (record { start = a′; len = b′; how = c′ })
+pub row-same : {a b c a′ b′ c′ : ℕ} → a ≡ a′ → b ≡ b′ → c ≡ c′ → _≡_ {A = Row} (record { start = a; len = b; how = c }) (record { start = a′; len = b′; how = c′ })
 row-same p q r = rw (p, q, r) refl
 
 row-stored : (s : List ℕ) (at : ℕ) (r : Row) → RowFits r → at + 12 ≤ length s → rowAt (sets s at (rowBytes r)) at ≡ r
