@@ -2,6 +2,7 @@
 // rows and the rebuilt string, or the number of the refusal.
 ghost use Prim.Native.Nat.{_≤_};
 ghost use lib.ListN.{length};
+ghost use Rattle.protocol.specs.RebuilderCall.{rowsNeeded};
 use ends::HolderAnswer;
 use ends::HolderOut;
 use ends::RebuilderAnswer;
@@ -15,7 +16,6 @@ use protocol::Holder;
 use protocol::Rebuilder;
 use protocol::Row;
 use protocol::Settings;
-use protocol::SheetChange;
 use strings::Refusal;
 
 // How far the run is: a question of so many bytes waits for its answer, X is rebuilt, or a call was turned down.
@@ -25,19 +25,18 @@ enum Progress {
     TurnedDown(Refusal),
 }
 
-// Both ends' states, and the bytes of row lines written so far.
+// How far the run is, and both ends' states.
 struct Session {
     progress: Progress,
     holder: Holder,
     rebuilder: Rebuilder,
-    row_bytes: usize,
 }
 
 fn print(text: &[u8]) {
     io::write_all(STDOUT_FILENO, text);
 }
 
-// The smaller number: no message is longer than its buffer.
+// The smaller number: no message is longer than its buffer, and no run has more rows than the sheet.
 fn at_most(v: usize, limit: usize) -> usize
     ensures { λ r. ⌜ r ≤ limit ⌝ }
 {
@@ -45,12 +44,6 @@ fn at_most(v: usize, limit: usize) -> usize
         return limit;
     }
     v
-}
-
-// The first `size` bytes.
-fn print_front(text: &[u8], size: usize) {
-    let end = at_most(size, text.len());
-    print(&text[0..end]);
 }
 
 fn print_message(letter: u8, message: &[u8])
@@ -68,7 +61,24 @@ fn print_refusal(e: Refusal) {
     print(&line[0..end]);
 }
 
-// The last line of a finished run; the opening is not among its questions.
+fn print_row(row: Row) {
+    let mut line = [0u8; 35];
+    let end = lines::put_row_line(&mut line, 0, row.start, row.len, row.how);
+    print(&line[0..end]);
+}
+
+// The used rows in the sheet's order.
+fn print_rows(sheet: &[u8; 196620], used: u32) {
+    let rows = at_most(used as usize, 16385);
+    let mut i: usize = 0;
+    while i < rows {
+        print_row(layout::read_row(sheet, i));
+        i += 1;
+    }
+}
+
+// The last line of a finished run; the opening is not among its questions. Neither refusal can happen: the rebuilder's state at the
+// finish has at most 65,536 bits and counts the opening among its answers.
 fn print_last(string: &[u8; 8192], st: Rebuilder) {
     if 65536 < st.n {
         return print_refusal(Refusal::NoRoom);
@@ -88,23 +98,6 @@ fn print_last(string: &[u8; 8192], st: Rebuilder) {
     print(&line[0..end]);
 }
 
-// A row line is written behind the first `at` bytes, if there is room for it. Gives the bytes of row lines.
-fn add_row(text: &mut [u8; 262195], at: usize, row: Row) -> usize {
-    if 262160 < at {
-        return at;
-    }
-    lines::put_row_line(text, at, row.start, row.len, row.how)
-}
-
-// What a call of the rebuilder does to the sheet is done to the row lines: one more line, or one in place of all.
-fn change_rows(text: &mut [u8; 262195], at: usize, change: SheetChange) -> usize {
-    match change {
-        SheetChange::NoRow => at,
-        SheetChange::AddRow(index, row) => add_row(text, at, row),
-        SheetChange::OneRow(index, row) => add_row(text, 0, row),
-    }
-}
-
 fn progress_of(answer: RebuilderAnswer) -> Progress {
     match answer {
         RebuilderAnswer::Asks(size) => Progress::Asking(size),
@@ -113,7 +106,8 @@ fn progress_of(answer: RebuilderAnswer) -> Progress {
     }
 }
 
-// The answer, the first `size` bytes of its buffer, goes to the rebuilder. The sheet has rows for any run: 2 * (65536 / 8) + 1.
+// The answer, the first `size` bytes of its buffer, goes to the rebuilder. The sheet has 16,385 rows, enough for any run:
+// 2 * (65536 / 8) + 1; what the call does to it lies in these.
 fn tell(
     st: Rebuilder,
     y: &[u8],
@@ -124,13 +118,14 @@ fn tell(
     question: &mut [u8; 8],
 ) -> RebuilderOut
     requires { ⌜ length (now reply) ≤ 8200 ⌝ }
+    ensures { λ r. ⌜ rowsNeeded (r .sheet) ≤ 16385 ⌝ }
 {
     let sent = at_most(size, reply.len());
     print_message(b'A', &reply[0..sent]);
     ends::rebuilder_call(st, y, bits, &reply[0..sent], 16385, string, question)
 }
 
-// The session after an answer of so many bytes.
+// The session after an answer of so many bytes; the sheet is changed as the rebuilder's call says.
 fn hear(
     s: Session,
     y: &[u8],
@@ -139,19 +134,18 @@ fn hear(
     size: usize,
     string: &mut [u8; 8192],
     question: &mut [u8; 8],
-    text: &mut [u8; 262195],
+    sheet: &mut [u8; 196620],
 ) -> Session {
     let out = tell(s.rebuilder, y, bits, reply, size, string, question);
     let change = out.sheet;
     let answer = out.answer;
     let rebuilder = out.state;
     let holder = s.holder;
-    let row_bytes = change_rows(text, s.row_bytes, change);
+    layout::apply_change(sheet, change);
     Session {
         progress: progress_of(answer),
         holder: holder,
         rebuilder: rebuilder,
-        row_bytes: row_bytes,
     }
 }
 
@@ -162,7 +156,6 @@ fn with_progress(s: Session, progress: Progress) -> Session {
         progress: progress,
         holder: holder,
         rebuilder: rebuilder,
-        row_bytes: s.row_bytes,
     }
 }
 
@@ -173,7 +166,6 @@ fn with_holder(s: Session, holder: Holder) -> Session {
         progress: progress,
         holder: holder,
         rebuilder: rebuilder,
-        row_bytes: s.row_bytes,
     }
 }
 
@@ -203,7 +195,7 @@ fn exchange(
     ybits: usize,
     string: &mut [u8; 8192],
     question: &mut [u8; 8],
-    text: &mut [u8; 262195],
+    sheet: &mut [u8; 196620],
 ) -> Session {
     let mut reply = [0u8; 8200];
     let out = ask(s.holder, x, xbits, question, size, &mut reply);
@@ -213,7 +205,7 @@ fn exchange(
         HolderAnswer::Refused(e) => with_progress(s, Progress::TurnedDown(e)),
         HolderAnswer::Replied(length) => {
             let next = with_holder(s, holder);
-            hear(next, y, ybits, &reply, length, string, question, text)
+            hear(next, y, ybits, &reply, length, string, question, sheet)
         }
     }
 }
@@ -227,7 +219,7 @@ fn converse(
     ybits: usize,
     string: &mut [u8; 8192],
     question: &mut [u8; 8],
-    text: &mut [u8; 262195],
+    sheet: &mut [u8; 196620],
 ) -> Session {
     let mut s = first;
     let mut left: u32 = 100000;
@@ -236,21 +228,22 @@ fn converse(
         let Progress::Asking(size) = progress else {
             return s;
         };
-        s = exchange(s, size, x, xbits, y, ybits, string, question, text);
+        s = exchange(s, size, x, xbits, y, ybits, string, question, sheet);
         left -= 1;
     }
     s
 }
 
-// The lines after the last answer.
-fn print_end(s: Session, string: &[u8; 8192], text: &[u8; 262195]) {
+// The lines after the last answer. No question can still wait here: `converse` has more rounds than any run has questions.
+fn print_end(s: Session, string: &[u8; 8192], sheet: &[u8; 196620]) {
     let progress = s.progress;
+    let rebuilder = s.rebuilder;
     match progress {
         Progress::Asking(size) => print_refusal(Refusal::OutOfTurn),
         Progress::TurnedDown(e) => print_refusal(e),
         Progress::Rebuilt => {
-            print_front(text, s.row_bytes);
-            print_last(string, s.rebuilder);
+            print_rows(sheet, rebuilder.rows);
+            print_last(string, rebuilder);
         }
     }
 }
@@ -265,12 +258,11 @@ fn run(settings: Settings, x: &[u8], xbits: usize, y: &[u8], ybits: usize) {
         StartAnswer::NotBegun(e) => print_refusal(e),
         StartAnswer::Begun(size) => {
             let mut string = [0u8; 8192];
-            let mut text = [0u8; 262195];
+            let mut sheet = [0u8; 196620];
             let first = Session {
                 progress: Progress::Asking(size),
                 holder: ends::fresh_holder(),
                 rebuilder: state,
-                row_bytes: 0,
             };
             let last = converse(
                 first,
@@ -280,9 +272,9 @@ fn run(settings: Settings, x: &[u8], xbits: usize, y: &[u8], ybits: usize) {
                 ybits,
                 &mut string,
                 &mut question,
-                &mut text,
+                &mut sheet,
             );
-            print_end(last, &string, &text);
+            print_end(last, &string, &sheet);
         }
     }
 }
