@@ -1,5 +1,5 @@
-// States and sheet as bytes, for the C interface (docs/LAYOUT.md). The functions require that the slice is long enough: an entry point
-// tests its length first.
+// States and sheet as bytes (docs/LAYOUT.md), for the C interface; the demonstration program keeps its sheet so too. The functions
+// require that the slice is long enough: an entry point tests its length first, and the demonstration's sheet has room for every run.
 mod numbers;
 mod sheet;
 mod state;

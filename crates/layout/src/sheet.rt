@@ -1,5 +1,5 @@
-// The sheet as bytes: rows of 12 bytes. The call has tested the sheet's length before a row is written or read, so that these functions
-// may require it.
+// The sheet as bytes: rows of 12 bytes. The call has tested the sheet's length before a row is written, and only rows in the sheet are
+// read, so that these functions may require it.
 ghost use mathlib.Core.Path.{_≡_};
 ghost use Prim.Native.Nat.{_+_, _-_, _*_, _≤_};
 ghost use lib.ListN.{length, replicate};
