@@ -1,13 +1,13 @@
 -- The lines that the program prints end within their buffers.
 use mathlib.Core.Path.{ap, _∙_}
-use mathlib.Core.List.{List, [], _∷_, _++_}
+use mathlib.Core.List.{List}
 use Prim.Native.Nat.{ℕ, _+_, _*_, _≤_}
 use native.Mathlib.Omega.{arith}
-use lib.ListN.{length, length-append}
+use lib.ListN.{length}
 use lib.Seq.{length-sets}
 use Rattle.strings.specs.Bits.{range}
-use Rattle.lines.specs.Printing.{Puts, decimal, messageLine, rowLine, lastLine, refusalLine}
-use Rattle.lines.specs.laws.PrintLaws.{length-decimal, length-message-line, length-last-line, length-refusal-line}
+use Rattle.lines.specs.Printing.{Puts, messageLine, rowLine, lastLine, refusalLine}
+use Rattle.lines.specs.laws.PrintLaws.{length-message-line, length-row-line, length-last-line, length-refusal-line}
 
 within : {buf bytes after : List ℕ} {end : ℕ} → Puts buf 0 bytes after end → length bytes ≤ length buf → end ≤ length after
 within {buf} {bytes} {after} p h = let e = p .ends in let l = ap length (p .holds) ∙ length-sets buf 0 bytes in omega arith
@@ -17,18 +17,6 @@ message-fits letter message p h = let l = length-message-line letter message in 
 
 pub refusal-fits : (number : ℕ) {buf after : List ℕ} {end : ℕ} → Puts buf 0 (refusalLine number) after end → 13 ≤ length buf → end ≤ length after
 refusal-fits number p h = let l = length-refusal-line number in within p (omega arith)
-
--- a row's three numbers have at most 10 digits each
-length-row-line : (start len how : ℕ) → length (rowLine start len how) ≤ 35
-unfolding rowLine
-length-row-line start len how =
-    let a = length-append (decimal how) (10 ∷ []) in
-    let b = length-append (decimal len) (32 ∷ (decimal how ++ (10 ∷ []))) in
-    let c = length-append (decimal start) (32 ∷ (decimal len ++ (32 ∷ (decimal how ++ (10 ∷ []))))) in
-    let d = length-decimal start in
-    let e = length-decimal len in
-    let f = length-decimal how in
-    omega arith
 
 pub row-fits : (start len how : ℕ) {buf after : List ℕ} {end : ℕ} → Puts buf 0 (rowLine start len how) after end → 35 ≤ length buf → end ≤ length after
 row-fits start len how p h = let l = length-row-line start len how in within p (omega arith)

@@ -13,7 +13,7 @@ use borrow.Author.Tests.{lt-ltb, le-ltb}
 use Rattle.strings.specs.Bits.{bitAt, range}
 use Rattle.strings.specs.laws.RangeLaws.{rest, rest-is, rest-last, range-length}
 use Rattle.strings.specs.laws.StoreLaws.{sets-append}
-use Rattle.lines.specs.Printing.{Puts, hexDigit, hexOf, digitsIn, decimal, bitByte, bitBytes, messageLine, lastLine, refusalLine}
+use Rattle.lines.specs.Printing.{Puts, hexDigit, hexOf, digitsIn, decimal, bitByte, bitBytes, messageLine, rowLine, lastLine, refusalLine}
 
 -- bytes written one behind the other
 pub puts-next : {buf l t m u : List ℕ} {at i j : ℕ} → Puts buf at l t i → Puts t i m u j → Puts buf at (l ++ m) u j
@@ -145,6 +145,14 @@ length-last-line s n questions counted =
     let b = length-next questions (32 ∷ (decimal counted ++ (10 ∷ []))) in
     let c = length-append (bitBytes (range s 0 n)) (32 ∷ (decimal questions ++ (32 ∷ (decimal counted ++ (10 ∷ []))))) in
     let d = length-text s n in
+    omega arith
+
+pub length-row-line : (start len how : ℕ) → length (rowLine start len how) ≤ 35
+unfolding rowLine
+length-row-line start len how =
+    let a = length-next how (10 ∷ []) in
+    let b = length-next len (32 ∷ (decimal how ++ (10 ∷ []))) in
+    let c = length-next start (32 ∷ (decimal len ++ (32 ∷ (decimal how ++ (10 ∷ []))))) in
     omega arith
 
 pub length-refusal-line : (number : ℕ) → length (refusalLine number) ≤ 13
