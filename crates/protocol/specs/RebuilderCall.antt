@@ -133,44 +133,47 @@ effectStep st size (splits s r b) = record {
   sheet = AddRow (st .rows) (row (top st .x + s) (st .settings .m) ByAnchor);
 }
 
+-- the state once X has n bits, with nothing waiting yet
+abbrev pub openedState : Rebuilder → ℕ → Rebuilder
+openedState st n = record {
+  settings = st .settings;
+  ybits = st .ybits;
+  phase = 1;
+  n = n;
+  answered = st .answered + 1;
+  counted = 0;
+  rows = 0;
+  stage = 0;
+  waiting = 0;
+  pieces = st .pieces;
+}
+
 -- the opening's answer n: the first piece is all of both
 unfoldable pub openingStep : Rebuilder → ℕ → Step
 openingStep st n = record {
-  state =
-      let st′ : Rebuilder = record {
-        settings = st .settings;
-        ybits = st .ybits;
-        phase = 1;
-        n = n;
-        answered = st .answered + 1;
-        counted = 0;
-        rows = 0;
-        stage = 0;
-        waiting = 0;
-        pieces = st .pieces;
-      } in restaged (pushed st′ (record { x = 0; p = n; y = 0; q = st .ybits }));
+  state = restaged (pushed (openedState st n) (record { x = 0; p = n; y = 0; q = st .ybits }));
   string = clears n;
   sheet = NoRow;
 }
 
+-- the state once all bits have come in an answer of size bytes
+abbrev pub wholeState : Rebuilder → (size : ℕ) → Rebuilder
+wholeState st size = record {
+  settings = st .settings;
+  ybits = st .ybits;
+  phase = 1;
+  n = st .n;
+  answered = st .answered + 1;
+  counted = st .counted + size;
+  rows = 1;
+  stage = 0;
+  waiting = 0;
+  pieces = replicate 32 noPiece;
+}
+
 -- the whole string's bits
 unfoldable pub wholeStep : Rebuilder → (size : ℕ) → List Bool → Step
-wholeStep st size l = record {
-  state = record {
-    settings = st .settings;
-    ybits = st .ybits;
-    phase = 1;
-    n = st .n;
-    answered = st .answered + 1;
-    counted = st .counted + size;
-    rows = 1;
-    stage = 0;
-    waiting = 0;
-    pieces = replicate 32 noPiece;
-  };
-  string = writes 0 l;
-  sheet = OneRow (st .rows) (row 0 (st .n) ByBits);
-}
+wholeStep st size l = record { state = wholeState st size; string = writes 0 l; sheet = OneRow (st .rows) (row 0 (st .n) ByBits) }
 
 -- one answer of size bytes
 unfoldable pub stepOf : Rebuilder → (y : List ℕ) → (size : ℕ) → Answer → Step

@@ -1,11 +1,10 @@
 // The rebuilder's state by value: the stack of waiting pieces, stages, counts, and the question that a state asks.
 ghost use mathlib.Core.Path.{_≡_};
 ghost use mathlib.Core.Bool.{Bool, true, false, _&&_};
-ghost use mathlib.Core.List.{List};
 ghost use Prim.Native.Nat.{ℕ, _+_, _-_, _*_, _/_, _≤_, _<_};
 ghost use Rattle.protocol.specs.Segments.{tooSmall};
 ghost use Rattle.protocol.specs.States.{noPiece, top, popped, pushed, restaged, retried, splitAt, laterNumber, firstNumber, nextNumber, anchorOffset, askFor, planned};
-ghost use Rattle.protocol.specs.RebuilderCall.{tallied, openingStep, wholeStep, freshRebuilder};
+ghost use Rattle.protocol.specs.RebuilderCall.{tallied, openingStep, wholeState, freshRebuilder};
 ghost use Rattle.states.specs.code.StateCode.{withinOne, planOf, Usable, Holds, Stages, Retries, Offsets, Splits, Counts, Asks, Plans};
 use messages::Question;
 use protocol::Piece;
@@ -241,7 +240,7 @@ pub fn open_state(st: Rebuilder, n: u32) -> Rebuilder
 // The state after an answer of size bytes with all bits.
 pub fn whole_state(st: Rebuilder, size: u32) -> Rebuilder
     requires { ⌜ Counts st size 0 ⌝ }
-    ensures { λ r. ⌜ ((l : List Bool) → r ≡ wholeStep st size l .state) ⌝ }
+    ensures { λ r. ⌜ r ≡ wholeState st size ⌝ }
 {
     let mut s = st;
     s.phase = 1;

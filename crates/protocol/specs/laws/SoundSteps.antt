@@ -16,7 +16,7 @@ use Rattle.protocol.specs.laws.Counts.{Sane, cut, deep, deeper, sane}
 use Rattle.protocol.specs.Soundness.{bound, asksLeft, openingSound, rowsLeft, sound, stageFits, topFits}
 use Rattle.protocol.specs.Limits.{Limits}
 use Rattle.protocol.specs.laws.Moves.{Blank, effectState, held-top, moved-effect, moved-push}
-use Rattle.protocol.specs.RebuilderCall.{counting, effectStep, freshRebuilder, numberedStage, openingStep, stepOf, tallied, wholeStep}
+use Rattle.protocol.specs.RebuilderCall.{counting, effectStep, freshRebuilder, numberedStage, openedState, openingStep, stepOf, tallied, wholeState, wholeStep}
 use Rattle.protocol.specs.laws.Right.{StageOk}
 use Rattle.protocol.specs.Runs.{blank, sizeOf, full}
 use Rattle.protocol.specs.Segments.{Effect, Stage, asks, effect, settles, splits, stays, theBits, theSize, waiting}
@@ -253,18 +253,7 @@ fresh-sound S bits L h = (
 pub opening-sound : (st : Rebuilder) (n : ℕ) → length (st .pieces) ≡ 32 → Framed st → OpeningIs st → n ≤ 65536 → Sound′ (openingStep st n .state)
 unfolding openingStep restaged
 opening-sound st n arr f k h =
-    let st′ : Rebuilder = record {
-      settings = st .settings;
-      ybits = st .ybits;
-      phase = 1;
-      n = n;
-      answered = st .answered + 1;
-      counted = 0;
-      rows = 0;
-      stage = 0;
-      waiting = 0;
-      pieces = st .pieces;
-    } in
+    let st′ : Rebuilder = openedState st n in
     let pc : Piece = record { x = 0; p = n; y = 0; q = st .ybits } in
     let m = moved-push st′ arr pc (omega arith) in
     let s = pushed st′ pc in
@@ -291,18 +280,7 @@ opening-sound st n arr f k h =
 pub whole-sound : (st : Rebuilder) (size : ℕ) (l : List Bool) → Framed st → WholeIs st → size ≤ full (st .n) → Sound′ (wholeStep st size l .state)
 unfolding wholeStep topFits rowsLeft asksLeft
 whole-sound st size l f k h =
-    let s : Rebuilder = record {
-      settings = st .settings;
-      ybits = st .ybits;
-      phase = 1;
-      n = st .n;
-      answered = st .answered + 1;
-      counted = st .counted + size;
-      rows = 1;
-      stage = 0;
-      waiting = 0;
-      pieces = replicate 32 noPiece;
-    } in
+    let s : Rebuilder = wholeState st size in
     let a = k .asks in let c = k .counted in let b = k .answered in (
       is-sound s record { limits = f .limits; copy = f .copy; size = f .size; few = omega arith; blank = zero-blank 0 }
           (phase-pieces s refl ∙ is-pieces s record {

@@ -11,7 +11,7 @@ use lib.Dec.{ltb, eqb}
 use Rattle.protocol.specs.Claims.{rowsAtFront}
 use Rattle.protocol.specs.laws.Kept.{blank-length}
 use Rattle.protocol.specs.laws.Moves.{Moved, effectState, held-top, moved-effect, moved-push}
-use Rattle.protocol.specs.RebuilderCall.{effectStep, noRow, numberedStage, openingStep, sheetAfter, stringAfter, tallied, wholeStep}
+use Rattle.protocol.specs.RebuilderCall.{effectStep, noRow, numberedStage, openedState, openingStep, sheetAfter, stringAfter, tallied, wholeStep}
 use Rattle.protocol.specs.Runs.{blank, string}
 use Rattle.protocol.specs.Segments.{Effect, Stage, hashing, row, settles, splits, stays, waiting}
 use Rattle.protocol.specs.laws.StackLaws.{IsNext, held-any, numberedPhase, restage-held, stageHeld}
@@ -255,18 +255,7 @@ pub stands-opening : (S : Settings) (yb : ℕ) (bs₀ : List ℕ) (sh₀ : List 
     Stands S yb bs₀ sh₀ 0 (openingStep st n .state) (stringAfter bs (openingStep st n .string)) (sheetAfter sh (openingStep st n .sheet)) (store atPieces n 0 (topStage S (push pc [])) (push pc []) (blank n) [])
 unfolding openingStep restaged
 stands-opening S yb bs₀ sh₀ st bs sh n eb es e f ar h =
-    let st′ : Rebuilder = record {
-      settings = st .settings;
-      ybits = st .ybits;
-      phase = 1;
-      n = n;
-      answered = st .answered + 1;
-      counted = 0;
-      rows = 0;
-      stage = 0;
-      waiting = 0;
-      pieces = st .pieces;
-    } in
+    let st′ : Rebuilder = openedState st n in
     let p₀ : Piece = record { x = 0; p = n; y = 0; q = st .ybits } in
     let pc : Piece = record { x = 0; p = n; y = 0; q = yb } in
     let k = moved-push st′ ar p₀ (omega arith) in

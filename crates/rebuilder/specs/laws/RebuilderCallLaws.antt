@@ -46,7 +46,7 @@ use Rattle.protocol.specs.Soundness.{sound, stageFits, openingSound, phaseSound
 use Rattle.protocol.specs.laws.SoundParts.{Framed, sound-is, phase-whole, OpeningIs, opening-is, WholeIs, whole-is, PiecesIs, top-is, ask-inside, PhaseOf, isOpening, isPieces, isWhole, phase-of}
 use Rattle.protocol.specs.laws.SoundSteps.{fresh-sound, opening-sound, whole-sound}
 use Rattle.protocol.specs.laws.Steps.{step-opening, step-whole}
-use Rattle.protocol.specs.RebuilderCall.{Taken, refuses, openingStep, wholeStep, stepOf, questionLength, Rooms, roomFor, hears, awaits, rebuilderCall, Started, starts, startDeclines, rebuilderStart, freshRebuilder}
+use Rattle.protocol.specs.RebuilderCall.{Taken, refuses, openingStep, wholeState, wholeStep, stepOf, questionLength, Rooms, roomFor, hears, awaits, rebuilderCall, Started, starts, startDeclines, rebuilderStart, freshRebuilder}
 use Rattle.rebuilder.specs.declared.RebuilderOut.{RebuilderOut}
 use Rattle.rebuilder.specs.declared.StartAnswer.the-variants.{Begun, NotBegun}
 use Rattle.rebuilder.specs.declared.StartOut.{StartOut}
@@ -70,10 +70,11 @@ module _ (st : Rebuilder) (size room : ℕ) (k : WholeDue st size room) where
   pub whole-text : (s : List ℕ) → st .n ≤ 8 * length s → Part s 0 (st .n)
   whole-text s h = let n = whole-framed .size in record { there = omega arith; few = omega arith }
 
-  pub whole-next : sound (wholeStep st size [] .state) ≡ true
+  pub whole-next : sound (wholeState st size) ≡ true
+  unfolding wholeStep
   whole-next = whole-sound st size [] whole-framed whole-now (k .short) .0
 
-  pub whole-said : {s : Rebuilder} → ((l : List Bool) → s ≡ wholeStep st size l .state) → (y bits buf : List ℕ) {r : RebuilderOut} {buf′ q q′ : List ℕ}
+  pub whole-said : {s : Rebuilder} → s ≡ wholeState st size → (y bits buf : List ℕ) {r : RebuilderOut} {buf′ q q′ : List ℕ}
       → buf′ ≡ writeBits buf 0 (range bits 0 (st .n)) → OutIs r s (OneRow (st .rows) (row 0 (st .n) ByBits)) q q′
       → saidRebuilder r buf′ q′ ≡ leavesRebuilder st buf q (stepTaken (stepOf st y size (bitsAnswer (range bits 0 (st .n)))))
   unfolding wholeStep
@@ -81,7 +82,7 @@ module _ (st : Rebuilder) (size room : ℕ) (k : WholeDue st size room) where
       let l = range bits 0 (st .n) in
       let two = k .phase in
       step-said st buf q (step-whole st y size (bitsAnswer l) (omega arith))
-      (out-said st (wholeStep st size l) buf (subst (λ (z : Rebuilder). OutIs r z (OneRow (st .rows) (row 0 (st .n) ByBits)) q q′) (g l) o) w)
+      (out-said st (wholeStep st size l) buf (subst (λ (z : Rebuilder). OutIs r z (OneRow (st .rows) (row 0 (st .n) ByBits)) q q′) g o) w)
 
 -- ---- the opening's answer
 module _ (st : Rebuilder) (n room : ℕ) (k : Opening st n room) where

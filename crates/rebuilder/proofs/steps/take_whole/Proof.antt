@@ -1,4 +1,3 @@
-use mathlib.Core.List.{[]}
 use Rattle.rebuilder.specs.laws.RebuilderCallLaws.{whole-counts, whole-text, whole-next, whole-said}
 use borrow.Author.Needs.{needs}
 use Rattle.rebuilder.proofs.steps.take_whole.Statement.{statement}
@@ -23,7 +22,7 @@ copy-bits-requires c κs = (whole-text (c .before .before .before .before .befor
 
 -- src/rebuilder.rt:298:5
 finish-requires : tie.Need-finish-requires
-finish-requires c κs = (rw (c .before .before .before .before .before .before .whole-state .ensures []) (whole-next (c .before .before .before .before .before .before .before .before .before .before .args .st) _ _ ((c .before .before .before .before .before .before .before .before .before .before .pre) .0)), (c .before .before .before .before .before .before .before .before .before .before .pre) .0 .enough)
+finish-requires c κs = (rw (c .before .before .before .before .before .before .whole-state .ensures) (whole-next (c .before .before .before .before .before .before .before .before .before .before .args .st) _ _ ((c .before .before .before .before .before .before .before .before .before .before .pre) .0)), (c .before .before .before .before .before .before .before .before .before .before .pre) .0 .enough)
 
 -- src/rebuilder.rt:286:1
 same-length : tie.Need-same-length

@@ -1,5 +1,4 @@
 use mathlib.Core.Path.{refl}
-use Rattle.protocol.specs.RebuilderCall.{wholeStep}
 use borrow.Author.Needs.{needs}
 use Rattle.states.proofs.state.whole_state.Statement.{statement}
 use Rattle.states.proofs.state.whole_state.Tie as tie
@@ -11,8 +10,7 @@ add-s-2 : tie.Need-add-s-2
 add-s-2 c = search needs
 
 returns : tie.Need-returns
-unfolding wholeStep
-returns c = λ l. refl
+returns c = refl
 
 pub whole-state-spec : {M : Type 1} → statement M
 whole-state-spec = tie.close (tie.spec add-s add-s-2 returns)
