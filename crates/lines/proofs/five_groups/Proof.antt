@@ -1,8 +1,25 @@
-use mathlib.Core.Path.{sym, _∙_}
-use Rattle.lines.specs.laws.SettingsLaws.{five-none, five-one, five-two, five-three, five-four, five-all}
+use mathlib.Core.Path.{ap, _∙_}
+use Rattle.lines.specs.declared.SettingsRead.the-variants.{Parsed}
+use Rattle.lines.specs.laws.SettingsLaws.{Groups, no-group-read, group-none, group-read}
 use borrow.Author.Needs.{needs}
 use Rattle.lines.proofs.five_groups.Statement.{statement}
 use Rattle.lines.proofs.five_groups.Tie as tie
+
+-- the groups read so far, where each next number is known
+abbrev m-read : tie.After-m → Groups 4
+m-read c = group-read (no-group-read (c .before .before .before .before .args .line .now)) (c .before .before .read-group .ensures) (c .m .given .1)
+
+abbrev h-read : tie.After-h → Groups 3
+h-read c = group-read (m-read (c .before .before .before .before)) (c .before .before .read-group2 .ensures) (c .h .given .1)
+
+abbrev k-read : tie.After-k → Groups 2
+k-read c = group-read (h-read (c .before .before .before .before)) (c .before .before .read-group3 .ensures) (c .k .given .1)
+
+abbrev key-read : tie.After-key → Groups 1
+key-read c = group-read (k-read (c .before .before .before .before)) (c .before .before .read-group4 .ensures) (c .key .given .1)
+
+abbrev ceiling-read : tie.After-ceiling → Groups 0
+ceiling-read c = group-read (key-read (c .before .before .before .before)) (c .before .before .read-group5 .ensures) (c .ceiling .given .1)
 
 read-group-requires : tie.Need-read-group-requires
 read-group-requires c κs = search needs
@@ -14,7 +31,7 @@ enum-told : tie.Need-enum-told
 enum-told c = search needs
 
 returns : tie.Need-returns
-returns c = five-none (c .before .before .before .before .args .line .now) (sym (c .before .before .read-group .ensures) ∙ c .enum-told .given .1)
+returns c = group-none (no-group-read _) (c .before .before .read-group .ensures) (c .enum-told .given .1)
 
 read-group-requires-2 : tie.Need-read-group-requires-2
 read-group-requires-2 c κs = search needs
@@ -26,7 +43,7 @@ enum-told-2 : tie.Need-enum-told-2
 enum-told-2 c = search needs
 
 returns-2 : tie.Need-returns-2
-returns-2 c = five-one (c .before .before .before .before .before .before .before .before .args .line .now) _ (sym (c .before .before .before .before .before .before .read-group .ensures) ∙ c .before .before .before .before .m .given .1) (sym (c .before .before .read-group2 .ensures) ∙ c .enum-told2 .given .1)
+returns-2 c = group-none (m-read (c .before .before .before .before)) (c .before .before .read-group2 .ensures) (c .enum-told2 .given .1)
 
 read-group-requires-3 : tie.Need-read-group-requires-3
 read-group-requires-3 c κs = search needs
@@ -38,7 +55,7 @@ enum-told-3 : tie.Need-enum-told-3
 enum-told-3 c = search needs
 
 returns-3 : tie.Need-returns-3
-returns-3 c = five-two (c .before .before .before .before .before .before .before .before .before .before .before .before .args .line .now) _ (sym (c .before .before .before .before .before .before .before .before .before .before .read-group .ensures) ∙ c .before .before .before .before .before .before .before .before .m .given .1) _ (sym (c .before .before .before .before .before .before .read-group2 .ensures) ∙ c .before .before .before .before .h .given .1) (sym (c .before .before .read-group3 .ensures) ∙ c .enum-told3 .given .1)
+returns-3 c = group-none (h-read (c .before .before .before .before)) (c .before .before .read-group3 .ensures) (c .enum-told3 .given .1)
 
 read-group-requires-4 : tie.Need-read-group-requires-4
 read-group-requires-4 c κs = search needs
@@ -50,7 +67,7 @@ enum-told-4 : tie.Need-enum-told-4
 enum-told-4 c = search needs
 
 returns-4 : tie.Need-returns-4
-returns-4 c = five-three (c .before .before .before .before .before .before .before .before .before .before .before .before .before .before .before .before .args .line .now) _ (sym (c .before .before .before .before .before .before .before .before .before .before .before .before .before .before .read-group .ensures) ∙ c .before .before .before .before .before .before .before .before .before .before .before .before .m .given .1) _ (sym (c .before .before .before .before .before .before .before .before .before .before .read-group2 .ensures) ∙ c .before .before .before .before .before .before .before .before .h .given .1) _ (sym (c .before .before .before .before .before .before .read-group3 .ensures) ∙ c .before .before .before .before .k .given .1) (sym (c .before .before .read-group4 .ensures) ∙ c .enum-told4 .given .1)
+returns-4 c = group-none (k-read (c .before .before .before .before)) (c .before .before .read-group4 .ensures) (c .enum-told4 .given .1)
 
 read-group-requires-5 : tie.Need-read-group-requires-5
 read-group-requires-5 c κs = search needs
@@ -62,13 +79,13 @@ enum-told-5 : tie.Need-enum-told-5
 enum-told-5 c = search needs
 
 returns-5 : tie.Need-returns-5
-returns-5 c = five-four (c .before .before .before .before .before .before .before .before .before .before .before .before .before .before .before .before .before .before .before .before .args .line .now) _ (sym (c .before .before .before .before .before .before .before .before .before .before .before .before .before .before .before .before .before .before .read-group .ensures) ∙ c .before .before .before .before .before .before .before .before .before .before .before .before .before .before .before .before .m .given .1) _ (sym (c .before .before .before .before .before .before .before .before .before .before .before .before .before .before .read-group2 .ensures) ∙ c .before .before .before .before .before .before .before .before .before .before .before .before .h .given .1) _ (sym (c .before .before .before .before .before .before .before .before .before .before .read-group3 .ensures) ∙ c .before .before .before .before .before .before .before .before .k .given .1) _ (sym (c .before .before .before .before .before .before .read-group4 .ensures) ∙ c .before .before .before .before .key .given .1) (sym (c .before .before .read-group5 .ensures) ∙ c .enum-told5 .given .1)
+returns-5 c = group-none (key-read (c .before .before .before .before)) (c .before .before .read-group5 .ensures) (c .enum-told5 .given .1)
 
 new-requires : tie.Need-new-requires
 new-requires c κs = search needs
 
 returns-6 : tie.Need-returns-6
-returns-6 c = five-all (c .before .before .before .before .before .before .before .before .before .before .before .before .before .before .before .before .before .before .before .before .before .before .args .line .now) _ (sym (c .before .before .before .before .before .before .before .before .before .before .before .before .before .before .before .before .before .before .before .before .read-group .ensures) ∙ c .before .before .before .before .before .before .before .before .before .before .before .before .before .before .before .before .before .before .m .given .1) _ (sym (c .before .before .before .before .before .before .before .before .before .before .before .before .before .before .before .before .read-group2 .ensures) ∙ c .before .before .before .before .before .before .before .before .before .before .before .before .before .before .h .given .1) _ (sym (c .before .before .before .before .before .before .before .before .before .before .before .before .read-group3 .ensures) ∙ c .before .before .before .before .before .before .before .before .before .before .k .given .1) _ (sym (c .before .before .before .before .before .before .before .before .read-group4 .ensures) ∙ c .before .before .before .before .before .before .key .given .1) _ (sym (c .before .before .before .before .read-group5 .ensures) ∙ c .before .before .ceiling .given .1) _ (c .new .ensures)
+returns-6 c = ap Parsed (c .new .ensures) ∙ ceiling-read (c .before .before) .so
 
 pub five-groups-spec : {M : Type 1} → statement M
 five-groups-spec =

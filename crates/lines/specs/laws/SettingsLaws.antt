@@ -1,22 +1,22 @@
 -- Laws of decimal numbers and of the settings line, as the code meets them.
 use mathlib.Core.Path.{_≡_, refl, _∙_}
 use mathlib.Core.Bool.{Bool, true, false, cond, _&&_}
-use mathlib.Core.List.{List, [], _∷_}
-use Prim.Native.Nat.{ℕ, _+_, _-_, _*_, _≤_, _<_}
+use mathlib.Core.List.{List, [], _∷_, _++_}
+use Prim.Native.Nat.{ℕ, zero, suc, _+_, _-_, _*_, _≤_, _<_}
 use native.Mathlib.Numerals.{add-one}
 use native.Mathlib.Omega.{arith}
 use lib.ListN.{length, getD, drop, drop-of-length-le}
 use lib.Seq.{drop-cons}
 use lib.Dec.{leb, ltb}
 use borrow.Author.Tests.{lt-ltb, le-ltb, lt-leb, le-leb}
-use Rattle.protocol.specs.declared.Settings.{Settings}
 use Rattle.lines.specs.declared.FieldFound.{FieldFound}
 use Rattle.lines.specs.declared.FieldFound.the-variants.{At, Missing}
 use Rattle.lines.specs.declared.Decimal.{Decimal}
 use Rattle.lines.specs.declared.Decimal.the-variants.{Value, NotDecimal}
+use Rattle.lines.specs.declared.SettingsRead.{SettingsRead}
 use Rattle.lines.specs.declared.SettingsRead.the-variants.{Parsed, Malformed}
 use Rattle.lines.specs.Fields.{field, bytesBetween}
-use Rattle.lines.specs.SettingsLine.{isDigit, allDigits, valueFrom, decimalOf, groupOf, fiveGroups, settingsOf, settingsIn}
+use Rattle.lines.specs.SettingsLine.{isDigit, allDigits, valueFrom, decimalOf, groupOf, withValue, fiveGroups, settingsOf, settingsIn}
 
 pub digit-low : (x : ℕ) → x < 48 → false ≡ isDigit x
 unfolding isDigit
@@ -99,32 +99,29 @@ module _ (input : List ℕ) {r : FieldFound} (p : r ≡ field 10 0 input) where
   unfolding settingsIn
   settings-found a b q = rw (← p, q) refl
 
--- ---- the five groups: the first that is no number decides
-module _ (line : List ℕ) where
-  pub five-none : groupOf line 0 ≡ NotDecimal → Malformed ≡ fiveGroups line
-  unfolding fiveGroups
-  five-none q = rw q refl
+-- ---- the five groups, read one after the other: the first that is no number decides
+-- what the last n groups make of the numbers l of those before them
+abbrev pub groupsOn : List ℕ → ℕ → List ℕ → SettingsRead
+groupsOn line zero l = Parsed (record { m = getD l 0 0; h = getD l 1 0; k = getD l 2 0; key = getD l 3 0; ceiling = getD l 4 0 })
+groupsOn line (suc n) l = withValue (groupOf line (length l)) (λ v. groupsOn line n (l ++ (v ∷ [])))
 
-  module _ (m : ℕ) (e₀ : groupOf line 0 ≡ Value m) where
-    pub five-one : groupOf line 1 ≡ NotDecimal → Malformed ≡ fiveGroups line
-    unfolding fiveGroups
-    five-one q = rw (e₀, q) refl
+-- a line of which all but n of the five groups were read
+pub record Groups (n : ℕ) : Type 0 where
+  pub line : List ℕ
+  pub numbers : List ℕ
+  pub so : groupsOn line n numbers ≡ fiveGroups line
 
-    module _ (h : ℕ) (e₁ : groupOf line 1 ≡ Value h) where
-      pub five-two : groupOf line 2 ≡ NotDecimal → Malformed ≡ fiveGroups line
-      unfolding fiveGroups
-      five-two q = rw (e₀, e₁, q) refl
+pub none-yet : (line : List ℕ) → groupsOn line 5 [] ≡ fiveGroups line
+unfolding fiveGroups
+none-yet line = refl
 
-      module _ (k : ℕ) (e₂ : groupOf line 2 ≡ Value k) where
-        pub five-three : groupOf line 3 ≡ NotDecimal → Malformed ≡ fiveGroups line
-        unfolding fiveGroups
-        five-three q = rw (e₀, e₁, e₂, q) refl
+abbrev pub no-group-read : List ℕ → Groups 5
+no-group-read line = record { line = line; numbers = []; so = none-yet line }
 
-        module _ (key : ℕ) (e₃ : groupOf line 3 ≡ Value key) where
-          pub five-four : groupOf line 4 ≡ NotDecimal → Malformed ≡ fiveGroups line
-          unfolding fiveGroups
-          five-four q = rw (e₀, e₁, e₂, e₃, q) refl
+-- r is what the next group was read as
+module _ {n : ℕ} (g : Groups (suc n)) {r : Decimal} (p : r ≡ groupOf (g .line) (length (g .numbers))) where
+  pub group-none : r ≡ NotDecimal → Malformed ≡ fiveGroups (g .line)
+  group-none q = (rw (← p, q) refl) ∙ g .so
 
-          pub five-all : (ceiling : ℕ) → groupOf line 4 ≡ Value ceiling → (S : Settings) → S ≡ record { m = m; h = h; k = k; key = key; ceiling = ceiling } → Parsed S ≡ fiveGroups line
-          unfolding fiveGroups
-          five-all ceiling q S f = rw (e₀, e₁, e₂, e₃, q, f) refl
+  abbrev pub group-read : {v : ℕ} → r ≡ Value v → Groups n
+  group-read {v} q = record { line = g .line; numbers = g .numbers ++ (v ∷ []); so = (rw (← p, q) refl) ∙ g .so }
