@@ -159,25 +159,9 @@ module _ (kind : Kind) (len h : ℕ) (s : List ℕ) {r : NumberRead} (p : r ≡ 
     pub answer-other : (v ≡ k → ⊥) → NoAnswer BadKind ≡ readAnswer kind len h s
     answer-other n = sym (answer-kind q ∙ rw (ne-eqb v (kindNumber kind) (λ f. n (f ∙ sym e))) refl)
 
-    module _ (f : v ≡ k) {o : AnswerRead} where
-      of-kind-read : o ≡ answerFields kind len h s at → o ≡ readAnswer kind len h s
-      of-kind-read g = g ∙ sym (answer-kind q ∙ rw (eq-eqb v (kindNumber kind) (f ∙ e)) refl)
-
-      pub answer-size-at : kind ≡ Open → o ≡ sizeAt s at → o ≡ readAnswer kind len h s
-      unfolding answerFields
-      answer-size-at d g = of-kind-read (rw d g)
-
-      pub answer-hash-at : kind ≡ Hash → o ≡ hashAt h s at → o ≡ readAnswer kind len h s
-      unfolding answerFields
-      answer-hash-at d g = of-kind-read (rw d g)
-
-      pub answer-syndrome-at : kind ≡ Syndrome → o ≡ syndromeAt len h s at → o ≡ readAnswer kind len h s
-      unfolding answerFields
-      answer-syndrome-at d g = of-kind-read (rw d g)
-
-      pub answer-bits-at : kind ≡ Bits → o ≡ bitsAt len s at → o ≡ readAnswer kind len h s
-      unfolding answerFields
-      answer-bits-at d g = of-kind-read (rw d g)
+    -- the fields are those of the awaited kind
+    pub answer-fields : v ≡ k → {o : AnswerRead} {j : Kind} → kind ≡ j → o ≡ answerFields j len h s at → o ≡ readAnswer kind len h s
+    answer-fields f d g = g ∙ sym (answer-kind q ∙ rw (eq-eqb v (kindNumber kind) (f ∙ e), d) refl)
 
 -- ---- what was written is read
 -- what a reader of an answer's bytes says: bits begin with the second byte

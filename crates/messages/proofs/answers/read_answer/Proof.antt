@@ -1,9 +1,23 @@
-use mathlib.Core.Path.{sym, _∙_}
+use mathlib.Core.Path.{_≡_, refl, sym, _∙_}
+use Rattle.numbers.specs.declared.NumberRead.the-variants.{Value}
+use Rattle.numbers.specs.Numbers.{numberAt}
 use Rattle.numbers.specs.laws.NumberLaws.{number-inside}
-use Rattle.messages.specs.laws.AnswerLaws.{answer-none, answer-other, answer-size-at, answer-hash-at, answer-syndrome-at, answer-bits-at}
+use Rattle.messages.specs.declared.Kind.{Kind}
+use Rattle.messages.specs.declared.AnswerRead.{AnswerRead}
+use Rattle.messages.specs.Answers.{answerFields, readAnswer}
+use Rattle.messages.specs.laws.AnswerLaws.{answer-none, answer-other, answer-fields}
 use borrow.Author.Needs.{needs}
 use Rattle.messages.proofs.answers.read_answer.Statement.{statement}
 use Rattle.messages.proofs.answers.read_answer.Tie as tie
+
+-- the number that the answer begins with
+number-read : (c : tie.After-v) → numberAt (c .before .before .before .before .args .s .now) 0 ≡ Value (c .v .given .0 .0) (c .v .given .0 .1 .0)
+number-read c = sym (c .before .before .next-number .ensures) ∙ c .v .given .1
+
+-- where it is the number of the awaited kind, that kind's fields decide
+fields-decide : (c : tie.Else1) {o : AnswerRead} {kind : Kind} → let v = c .before .before .before in let a = v .before .before .before .before .args in
+    a .kind ≡ kind → o ≡ answerFields kind (a .len) (a .h) (a .s .now) (v .v .given .0 .1 .0) → o ≡ readAnswer (a .kind) (a .len) (a .h) (a .s .now)
+fields-decide c = answer-fields _ _ _ _ refl (number-read (c .before .before .before)) (c .before .kind-number .ensures) (c .if1 .left)
 
 next-number-requires : tie.Need-next-number-requires
 next-number-requires c κs = search needs
@@ -18,11 +32,7 @@ kind-number-requires : tie.Need-kind-number-requires
 kind-number-requires c κs = search needs
 
 returns : tie.Need-returns
-returns c =
-    let next-number = c .before .before .before .before .before .next-number in
-    let v = c .before .before .before .v in
-    let kind-number = c .before .kind-number in
-    answer-other _ _ _ _ (next-number .ensures) (v .given .1) (kind-number .ensures) (c .if1 .taken)
+returns c = answer-other _ _ _ _ refl (number-read (c .before .before .before)) (c .before .kind-number .ensures) (c .if1 .taken)
 
 enum-told : tie.Need-enum-told
 enum-told c = search needs
@@ -46,49 +56,26 @@ enum-told-4 : tie.Need-enum-told-4
 enum-told-4 c = search needs
 
 read-bits-requires : tie.Need-read-bits-requires
-read-bits-requires c κs =
-    let next-number = c .before .before .before .before .before .before .before .next-number in
-    let v = c .before .before .before .before .before .v in
-    number-inside _ _ _ _ (sym (next-number .ensures) ∙ v .given .1) .1
+read-bits-requires c κs = number-inside _ _ _ _ (number-read (c .before .before .before .before .before)) .1
 
 returns-2 : tie.Need-returns-2
 returns-2 c = answer-none _ _ _ _ (c .before .before .before .next-number .ensures) (c .before .e .given .1)
 
 returns-3 : tie.Need-returns-3
-returns-3 c =
-    let next-number = c .before .before .before .before .before .before .before .before .next-number in
-    let v = c .before .before .before .before .before .before .v in
-    let kind-number = c .before .before .before .before .kind-number in
-    let if1 = c .before .before .before .if1 in
-    let enum-told = c .before .enum-told in
-    answer-size-at _ _ _ _ (next-number .ensures) (v .given .1) (kind-number .ensures) (if1 .left) (enum-told .given .1) (c .read-size .ensures)
+unfolding answerFields
+returns-3 c = fields-decide (c .before .before .before) (c .before .enum-told .given .1) (c .read-size .ensures)
 
 returns-4 : tie.Need-returns-4
-returns-4 c =
-    let next-number = c .before .before .before .before .before .before .before .before .next-number in
-    let v = c .before .before .before .before .before .before .v in
-    let kind-number = c .before .before .before .before .kind-number in
-    let if1 = c .before .before .before .if1 in
-    let enum-told2 = c .before .enum-told2 in
-    answer-hash-at _ _ _ _ (next-number .ensures) (v .given .1) (kind-number .ensures) (if1 .left) (enum-told2 .given .1) (c .read-hash .ensures)
+unfolding answerFields
+returns-4 c = fields-decide (c .before .before .before) (c .before .enum-told2 .given .1) (c .read-hash .ensures)
 
 returns-5 : tie.Need-returns-5
-returns-5 c =
-    let next-number = c .before .before .before .before .before .before .before .before .next-number in
-    let v = c .before .before .before .before .before .before .v in
-    let kind-number = c .before .before .before .before .kind-number in
-    let if1 = c .before .before .before .if1 in
-    let enum-told3 = c .before .enum-told3 in
-    answer-syndrome-at _ _ _ _ (next-number .ensures) (v .given .1) (kind-number .ensures) (if1 .left) (enum-told3 .given .1) (c .read-syndrome .ensures)
+unfolding answerFields
+returns-5 c = fields-decide (c .before .before .before) (c .before .enum-told3 .given .1) (c .read-syndrome .ensures)
 
 returns-6 : tie.Need-returns-6
-returns-6 c =
-    let next-number = c .before .before .before .before .before .before .before .before .next-number in
-    let v = c .before .before .before .before .before .before .v in
-    let kind-number = c .before .before .before .before .kind-number in
-    let if1 = c .before .before .before .if1 in
-    let enum-told4 = c .before .enum-told4 in
-    answer-bits-at _ _ _ _ (next-number .ensures) (v .given .1) (kind-number .ensures) (if1 .left) (enum-told4 .given .1) (c .read-bits .ensures)
+unfolding answerFields
+returns-6 c = fields-decide (c .before .before .before) (c .before .enum-told4 .given .1) (c .read-bits .ensures)
 
 pub read-answer-spec : {M : Type 1} → statement M
 read-answer-spec =
