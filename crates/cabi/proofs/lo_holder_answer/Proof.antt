@@ -3,7 +3,7 @@ use mathlib.Core.Bool.{true}
 use native.Mathlib.Omega.{arith}
 use borrow.Author.Tests.{not-true, not-false}
 use Rattle.strings.specs.StringRule.{stringRule}
-use Rattle.cabi.specs.laws.HolderBytesLaws.{holder-bad-string, holder-no-state, answer-declined, answer-small, answer-replied}
+use Rattle.cabi.specs.laws.HolderBytesLaws.{holder-bad-string, holder-no-state, HolderCalled, answer-declined, answer-small, answer-replied}
 use borrow.Author.Needs.{needs}
 use Rattle.cabi.proofs.lo_holder_answer.Statement.{statement}
 use Rattle.cabi.proofs.lo_holder_answer.Tie as tie
@@ -11,6 +11,27 @@ use Rattle.cabi.proofs.lo_holder_answer.Tie as tie
 -- what the first test shows
 string-kept : (c : tie.Else1) → let args = c .before .before .before .before .before .before .args in stringRule (args .x .now) (args .bits) ≡ true
 string-kept c = sym (c .before .keeps-string-rule .ensures) ∙ not-false _ (c .if1 .left)
+
+-- what is known where the call on the state has answered
+abbrev called : tie.After-holder-call → HolderCalled
+called c =
+    let read = c .before .before in
+    let if2 = read .before .before in
+    let a = if2 .before .before .before .before .before .before .before .args in
+    record {
+      s = a .state .now;
+      x = a .x .now;
+      bits = a .bits;
+      msg = a .msg .now;
+      reply = a .reply .now;
+      reply′ = _;
+      st = _;
+      out = c .holder-call .result;
+      rule = string-kept (if2 .before);
+      whole = if2 .if2 .left;
+      read = read .read-holder .ensures;
+      said = c .holder-call .ensures;
+    }
 
 keeps-string-rule-requires : tie.Need-keeps-string-rule-requires
 keeps-string-rule-requires c κs = search needs
@@ -40,9 +61,7 @@ write-holder-requires : tie.Need-write-holder-requires
 write-holder-requires c κs = search needs
 
 mul-result : tie.Need-mul-result
-mul-result c =
-    let a = c .before .before .before .before .before .before .before .before .before .before .before .before .before .before .before .before .before .before .before .before .args in
-    let small = answer-small (a .state .now) (a .x .now) (a .bits) (a .msg .now) (a .reply .now) _ _ _ (string-kept (c .before .before .before .before .before .before .before .before .before .before .before .before .before .before)) (c .before .before .before .before .before .before .before .before .before .before .before .before .before .if2 .left) (c .before .before .before .before .before .before .before .before .before .before .before .read-holder .ensures) (c .before .before .before .before .before .before .before .before .before .holder-call .ensures) _ (c .before .before .before .before .before .answer2 .given .1) in omega arith
+mul-result c = let small = answer-small (called (c .before .before .before .before .before .before .before .before .before)) (c .before .before .before .before .before .answer2 .given .1) in omega arith
 
 same-length : tie.Need-same-length
 same-length c = search needs
@@ -51,9 +70,7 @@ same-length-2 : tie.Need-same-length-2
 same-length-2 c = search needs
 
 returns-3 : tie.Need-returns-3
-returns-3 c =
-    let a = c .before .before .before .before .before .before .before .before .before .before .before .before .before .before .before .before .before .args in
-    answer-declined (a .state .now) (a .x .now) (a .bits) (a .msg .now) (a .reply .now) _ _ _ (string-kept (c .before .before .before .before .before .before .before .before .before .before .before)) (c .before .before .before .before .before .before .before .before .before .before .if2 .left) (c .before .before .before .before .before .before .before .before .read-holder .ensures) (c .before .before .before .before .before .before .holder-call .ensures) _ _ (c .before .before .answer .given .1) (c .pack-refusal .ensures)
+returns-3 c = answer-declined (called (c .before .before .before .before .before .before)) (c .before .before .answer .given .1) (c .pack-refusal .ensures)
 
 same-length-3 : tie.Need-same-length-3
 same-length-3 c = search needs
@@ -62,9 +79,7 @@ same-length-4 : tie.Need-same-length-4
 same-length-4 c = search needs
 
 returns-4 : tie.Need-returns-4
-returns-4 c =
-    let a = c .before .before .before .before .before .before .before .before .before .before .before .before .before .before .before .before .before .before .before .before .args in
-    answer-replied (a .state .now) (a .x .now) (a .bits) (a .msg .now) (a .reply .now) _ _ _ (string-kept (c .before .before .before .before .before .before .before .before .before .before .before .before .before .before)) (c .before .before .before .before .before .before .before .before .before .before .before .before .before .if2 .left) (c .before .before .before .before .before .before .before .before .before .before .before .read-holder .ensures) (c .before .before .before .before .before .before .before .before .before .holder-call .ensures) _ _ (c .before .before .before .before .before .answer2 .given .1) (c .before .before .write-holder .ensures)
+returns-4 c = answer-replied (called (c .before .before .before .before .before .before .before .before .before)) (c .before .before .before .before .before .answer2 .given .1) (c .before .before .write-holder .ensures)
 
 pub lo-holder-answer-spec : {M : Type 1} → statement M
 lo-holder-answer-spec =

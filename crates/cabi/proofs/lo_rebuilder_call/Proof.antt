@@ -1,8 +1,9 @@
-use mathlib.Core.Path.{_≡_, sym, _∙_}
+use mathlib.Core.Path.{_≡_, sym, ap, _∙_}
 use mathlib.Core.Bool.{true}
 use borrow.Author.Tests.{not-true, not-false}
 use Rattle.strings.specs.StringRule.{stringRule}
-use Rattle.cabi.specs.laws.RebuilderBytesLaws.{call-bad-string, call-no-state, call-rows, call-small, call-declined, call-asks, call-finished}
+use Rattle.rebuilder.specs.RebuilderOutcome.{callSaid}
+use Rattle.cabi.specs.laws.RebuilderBytesLaws.{call-bad-string, call-no-state, RebuilderCalled, call-rows, call-small, call-declined, call-taken}
 use borrow.Author.Needs.{needs}
 use Rattle.cabi.proofs.lo_rebuilder_call.Statement.{statement}
 use Rattle.cabi.proofs.lo_rebuilder_call.Tie as tie
@@ -10,6 +11,30 @@ use Rattle.cabi.proofs.lo_rebuilder_call.Tie as tie
 -- what the first test shows
 string-kept : (c : tie.Else1) → let args = c .before .before .before .before .before .before .before .before .args in stringRule (args .y .now) (args .bits) ≡ true
 string-kept c = sym (c .before .keeps-string-rule .ensures) ∙ not-false _ (c .if1 .left)
+
+-- what is known where the call on the state has answered
+abbrev called : tie.After-rebuilder-call → RebuilderCalled
+called c =
+    let read = c .before .before .before in
+    let if2 = read .before .before in
+    let a = if2 .before .before .before .before .before .before .before .before .before .args in
+    record {
+      s = a .state .now;
+      y = a .y .now;
+      bits = a .bits;
+      msg = a .msg .now;
+      string = a .string .now;
+      sheet = a .sheet .now;
+      question = a .question .now;
+      string′ = _;
+      question′ = _;
+      st = _;
+      out = c .rebuilder-call .result;
+      rule = string-kept (if2 .before);
+      whole = if2 .if2 .left;
+      read = read .read-rebuilder .ensures;
+      said = c .rebuilder-call .ensures;
+    }
 
 keeps-string-rule-requires : tie.Need-keeps-string-rule-requires
 keeps-string-rule-requires c κs = search needs
@@ -36,19 +61,13 @@ enum-told : tie.Need-enum-told
 enum-told c = search needs
 
 keep-requires : tie.Need-keep-requires
-keep-requires c κs =
-    let call = c .before .before .before .before .before .before .before .before .before in
-    let a = call .before .before .before .before .before .before .before .before .before .before .before .before .before .before .args in
-    (search needs, (call-rows (a .state .now) (a .y .now) (a .bits) (a .msg .now) (a .string .now) (a .sheet .now) (a .question .now) _ _ _ (call .rebuilder-call .result) (call .before .before .before .read-rebuilder .ensures) (call .rebuilder-call .ensures), search needs))
+keep-requires c κs = (search needs, (call-rows (called (c .before .before .before .before .before .before .before .before .before)), search needs))
 
 enum-known-answer-2 : tie.Need-enum-known-answer-2
 enum-known-answer-2 c = search needs
 
 keep-requires-2 : tie.Need-keep-requires-2
-keep-requires-2 c κs =
-    let call = c .before .before .before .before .before .before .before .before .before .before in
-    let a = call .before .before .before .before .before .before .before .before .before .before .before .before .before .before .args in
-    (search needs, (call-rows (a .state .now) (a .y .now) (a .bits) (a .msg .now) (a .string .now) (a .sheet .now) (a .question .now) _ _ _ (call .rebuilder-call .result) (call .before .before .before .read-rebuilder .ensures) (call .rebuilder-call .ensures), call-small (a .state .now) (a .y .now) (a .bits) (a .msg .now) (a .string .now) (a .sheet .now) (a .question .now) _ _ _ (call .rebuilder-call .result) (call .before .before .before .read-rebuilder .ensures) (call .rebuilder-call .ensures) _ (c .before .before .before .answer2 .given .1)))
+keep-requires-2 c κs = let k = called (c .before .before .before .before .before .before .before .before .before .before) in (search needs, (call-rows k, call-small k (ap callSaid (c .before .before .before .answer2 .given .1))))
 
 same-length : tie.Need-same-length
 same-length c = search needs
@@ -60,10 +79,7 @@ same-length-3 : tie.Need-same-length-3
 same-length-3 c = search needs
 
 returns-3 : tie.Need-returns-3
-returns-3 c =
-    let call = c .before .before .before .before .before .before .before .before .before in
-    let a = call .before .before .before .before .before .before .before .before .before .before .before .before .before .before .args in
-    call-declined (a .state .now) (a .y .now) (a .bits) (a .msg .now) (a .string .now) (a .sheet .now) (a .question .now) _ _ _ (call .rebuilder-call .result) (call .before .before .before .read-rebuilder .ensures) (call .rebuilder-call .ensures) (string-kept (call .before .before .before .before .before .before)) (call .before .before .before .before .before .if2 .left) _ _ (c .before .before .answer .given .1) (c .pack-refusal .ensures)
+returns-3 c = call-declined (called (c .before .before .before .before .before .before .before .before .before)) (c .before .before .answer .given .1) (c .pack-refusal .ensures)
 
 same-length-4 : tie.Need-same-length-4
 same-length-4 c = search needs
@@ -79,10 +95,8 @@ same-length-7 c = search needs
 
 returns-4 : tie.Need-returns-4
 returns-4 c =
-    let call = c .before .before .before .before .before .before .before .before .before .before .before .before .before .before in
-    let a = call .before .before .before .before .before .before .before .before .before .before .before .before .before .before .args in
-    let keep = c .before .before .before .before .keep in
-    call-finished (a .state .now) (a .y .now) (a .bits) (a .msg .now) (a .string .now) (a .sheet .now) (a .question .now) _ _ _ (call .rebuilder-call .result) (call .before .before .before .read-rebuilder .ensures) (call .rebuilder-call .ensures) (string-kept (call .before .before .before .before .before .before)) (call .before .before .before .before .before .if2 .left) _ _ _ (c .before .before .before .before .before .before .before .enum-told .given .1) (keep .ensures .0) (keep .ensures .1 .0) (keep .ensures .1 .1)
+    let keep = c .before .before .before .before .keep .ensures in
+    call-taken (called (c .before .before .before .before .before .before .before .before .before .before .before .before .before .before)) (ap callSaid (c .before .before .before .before .before .before .before .enum-told .given .1)) (keep .0) (keep .1 .0) (keep .1 .1)
 
 same-length-8 : tie.Need-same-length-8
 same-length-8 c = search needs
@@ -98,10 +112,8 @@ same-length-11 c = search needs
 
 returns-5 : tie.Need-returns-5
 returns-5 c =
-    let call = c .before .before .before .before .before .before .before .before .before .before .before .before .before .before .before in
-    let a = call .before .before .before .before .before .before .before .before .before .before .before .before .before .before .args in
-    let keep2 = c .before .before .before .before .keep2 in
-    call-asks (a .state .now) (a .y .now) (a .bits) (a .msg .now) (a .string .now) (a .sheet .now) (a .question .now) _ _ _ (call .rebuilder-call .result) (call .before .before .before .read-rebuilder .ensures) (call .rebuilder-call .ensures) (string-kept (call .before .before .before .before .before .before)) (call .before .before .before .before .before .if2 .left) _ _ _ _ (c .before .before .before .before .before .before .before .before .answer2 .given .1) (keep2 .ensures .0) (keep2 .ensures .1 .0) (keep2 .ensures .1 .1)
+    let keep = c .before .before .before .before .keep2 .ensures in
+    call-taken (called (c .before .before .before .before .before .before .before .before .before .before .before .before .before .before .before)) (ap callSaid (c .before .before .before .before .before .before .before .before .answer2 .given .1)) (keep .0) (keep .1 .0) (keep .1 .1)
 
 pub lo-rebuilder-call-spec : {M : Type 1} → statement M
 lo-rebuilder-call-spec =

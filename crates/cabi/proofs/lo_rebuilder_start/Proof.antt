@@ -4,7 +4,7 @@ use native.Mathlib.Omega.{arith}
 use borrow.Author.Tests.{not-true, not-false}
 use Rattle.strings.specs.StringRule.{stringRule}
 use Rattle.protocol.specs.Limits.{withinLimits}
-use Rattle.cabi.specs.laws.RebuilderBytesLaws.{start-bad-setting, start-bad-string, start-short, start-small, start-declined, start-begun}
+use Rattle.cabi.specs.laws.RebuilderBytesLaws.{start-bad-setting, start-bad-string, start-short, StartCalled, start-small, start-declined, start-begun}
 use borrow.Author.Needs.{needs}
 use Rattle.cabi.proofs.lo_rebuilder_start.Statement.{statement}
 use Rattle.cabi.proofs.lo_rebuilder_start.Tie as tie
@@ -15,6 +15,29 @@ limits-kept c = ap withinLimits (sym (c .before .before .new .ensures)) ∙ sym 
 
 string-kept : (c : tie.Else2) → let a = c .before .before .before .before .before .before .before .before .args in stringRule (a .y .now) (a .bits) ≡ true
 string-kept c = sym (c .before .keeps-string-rule .ensures) ∙ not-false _ (c .if2 .left)
+
+-- what is known where the start has answered
+abbrev called : tie.After-rebuilder-start → StartCalled
+called c =
+    let if3 = c .before .before in
+    let if1 = if3 .before .before .before in
+    let new = if1 .before .before in
+    let a = new .before .before .before .before .args in
+    record {
+      S = record { m = a .m; h = a .h; k = a .k; key = a .key; ceiling = a .ceiling };
+      given = _;
+      y = a .y .now;
+      bits = a .bits;
+      s = a .state .now;
+      question = a .question .now;
+      question′ = _;
+      out = c .rebuilder-start .result;
+      same = new .new .ensures;
+      limits = limits-kept if1;
+      rule = string-kept (if3 .before);
+      room = if3 .if3 .left;
+      said = c .rebuilder-start .ensures;
+    }
 
 new-requires : tie.Need-new-requires
 new-requires c κs = search needs
@@ -50,20 +73,13 @@ write-rebuilder-requires : tie.Need-write-rebuilder-requires
 write-rebuilder-requires c κs = search needs
 
 mul-result : tie.Need-mul-result
-mul-result c =
-    let call = c .before .before .before .before .before .before .before .before .before in
-    let a = call .before .before .before .before .before .before .before .before .before .before .before .args in
-    let small = start-small (record { m = a .m; h = a .h; k = a .k; key = a .key; ceiling = a .ceiling }) (call .before .before .before .before .before .before .before .new .ensures) (a .y .now) (a .bits) (a .state .now) (a .question .now) _ _ (call .rebuilder-start .ensures) _ (c .before .before .before .before .before .answer2 .given .1) in
-    omega arith
+mul-result c = let small = start-small (called (c .before .before .before .before .before .before .before .before .before)) (c .before .before .before .before .before .answer2 .given .1) in omega arith
 
 same-length : tie.Need-same-length
 same-length c = search needs
 
 returns-4 : tie.Need-returns-4
-returns-4 c =
-    let call = c .before .before .before .before .before .before in
-    let a = call .before .before .before .before .before .before .before .before .before .before .before .args in
-    start-declined (record { m = a .m; h = a .h; k = a .k; key = a .key; ceiling = a .ceiling }) (call .before .before .before .before .before .before .before .new .ensures) (a .y .now) (a .bits) (a .state .now) (a .question .now) _ _ (call .rebuilder-start .ensures) (limits-kept (call .before .before .before .before .before)) (string-kept (call .before .before .before)) (call .before .before .if3 .left) _ _ (c .before .before .answer .given .1) (c .pack-refusal .ensures)
+returns-4 c = start-declined (called (c .before .before .before .before .before .before)) (c .before .before .answer .given .1) (c .pack-refusal .ensures)
 
 same-length-2 : tie.Need-same-length-2
 same-length-2 c = search needs
@@ -72,10 +88,7 @@ same-length-3 : tie.Need-same-length-3
 same-length-3 c = search needs
 
 returns-5 : tie.Need-returns-5
-returns-5 c =
-    let call = c .before .before .before .before .before .before .before .before .before in
-    let a = call .before .before .before .before .before .before .before .before .before .before .before .args in
-    start-begun (record { m = a .m; h = a .h; k = a .k; key = a .key; ceiling = a .ceiling }) (call .before .before .before .before .before .before .before .new .ensures) (a .y .now) (a .bits) (a .state .now) (a .question .now) _ _ (call .rebuilder-start .ensures) (limits-kept (call .before .before .before .before .before)) (string-kept (call .before .before .before)) (call .before .before .if3 .left) _ _ (c .before .before .before .before .before .answer2 .given .1) (c .before .before .write-rebuilder .ensures)
+returns-5 c = start-begun (called (c .before .before .before .before .before .before .before .before .before)) (c .before .before .before .before .before .answer2 .given .1) (c .before .before .write-rebuilder .ensures)
 
 pub lo-rebuilder-start-spec : {M : Type 1} → statement M
 lo-rebuilder-start-spec =

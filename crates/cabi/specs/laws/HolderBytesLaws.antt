@@ -35,7 +35,7 @@ use Rattle.holder.specs.HolderOutcome.{HolderSaid, answerSaid, saidHolder, leav
 use Rattle.layout.specs.Layout.{holderBytes, holderOf}
 use Rattle.layout.specs.laws.LayoutLaws.{holder-back, holder-fits, length-holder}
 use Rattle.cabi.specs.Packing.{packed}
-use Rattle.cabi.specs.Calls.{holderMade, holderOnBytes, holderLeft}
+use Rattle.cabi.specs.Calls.{holderMade, holderOnBytes, HolderLeft, holderLeft}
 
 -- ---- a fresh holder
 pub fresh-short : (s : List ℕ) → length s < 20 → record { result = 9; state = s } ≡ holderMade s
@@ -133,25 +133,45 @@ module _ (s reply reply′ : List ℕ) (st : Holder) (out : HolderOut) where
       let i : reply′ ≡ atFront m reply = ap (λ (w : HolderSaid). w .reply) k in
       rw (g, d, c, i) refl
 
--- for the code: the answer's two cases; st is the state that was read
-module _ (s x : List ℕ) (bits : ℕ) (msg reply reply′ : List ℕ) (st : Holder) (out : HolderOut) (e : stringRule x bits ≡ true) (f : length s ≡ 20) (g : st ≡ holderOf s)
-    (k : saidHolder out reply′ ≡ leavesHolder st reply (holderCall st x bits msg (length reply))) where
-  called : holderOnBytes s x bits msg (length reply) ≡ holderCall st x bits msg (length reply)
-  called = holder-called s x bits msg reply e f ∙ ap (λ (z : Holder). holderCall z x bits msg (length reply)) (sym g)
+-- for the code: what is known where the call on the state that was read has answered
+pub record HolderCalled : Type 0 where
+  pub s : List ℕ
+  pub x : List ℕ
+  pub bits : ℕ
+  pub msg : List ℕ
+  pub reply : List ℕ
+  pub reply′ : List ℕ
+  pub st : Holder
+  pub out : HolderOut
+  pub rule : stringRule x bits ≡ true
+  pub whole : length s ≡ 20
+  pub read : st ≡ holderOf s
+  pub said : saidHolder out reply′ ≡ leavesHolder st reply (holderCall st x bits msg (length reply))
 
-  pub answer-declined : (d : Refusal) (r : ℕ) → out .answer ≡ Refused d → r ≡ packed (refusal (refusalNumber d))
-      → record { result = r; state = s; reply = reply′ } ≡ holderLeft s reply (holderOnBytes s x bits msg (length reply))
-  answer-declined d r a h = rw (called, h) (holder-declined s reply reply′ st out (holderCall st x bits msg (length reply)) d k a)
+-- and what shall be left; the answer's two cases
+module _ (k : HolderCalled) where
+  abbrev pub holderLeaves : HolderLeft
+  holderLeaves = holderLeft (k .s) (k .reply) (holderOnBytes (k .s) (k .x) (k .bits) (k .msg) (length (k .reply)))
 
-  pub answer-small : (size : ℕ) → out .answer ≡ Replied size → size ≤ 65536
-  answer-small size a = holder-size s reply reply′ st out (holderCall st x bits msg (length reply)) size k a (λ next m t. reply-most st x bits msg (length reply) next m t)
+  abbrev heard : Heard
+  heard = holderCall (k .st) (k .x) (k .bits) (k .msg) (length (k .reply))
 
-  pub answer-replied : (size : ℕ) (s′ : List ℕ) → out .answer ≡ Replied size → s′ ≡ holderBytes (out .state) ++ drop 20 s
-      → record { result = size * 16; state = s′; reply = reply′ } ≡ holderLeft s reply (holderOnBytes s x bits msg (length reply))
-  answer-replied size s′ a h =
-      let whole : holderBytes (out .state) ++ drop 20 s ≡ holderBytes (out .state)
-      = ap (λ (l : List ℕ). holderBytes (out .state) ++ l) (drop-of-length-le s {i = 20} (let z = f in omega arith)) ∙ append-nil (holderBytes (out .state)) in
-      rw called (holder-replied s reply reply′ st out (holderCall st x bits msg (length reply)) size s′ k a (h ∙ whole))
+  called : holderLeft (k .s) (k .reply) heard ≡ holderLeaves
+  called = sym (rw (holder-called (k .s) (k .x) (k .bits) (k .msg) (k .reply) (k .rule) (k .whole), k .read) refl)
+
+  pub answer-declined : {d : Refusal} {r : ℕ} → k .out .answer ≡ Refused d → r ≡ packed (refusal (refusalNumber d)) → record { result = r; state = k .s; reply = k .reply′ } ≡ holderLeaves
+  answer-declined {d} a h = (rw h (holder-declined (k .s) (k .reply) (k .reply′) (k .st) (k .out) heard d (k .said) a)) ∙ called
+
+  pub answer-small : {size : ℕ} → k .out .answer ≡ Replied size → size ≤ 65536
+  answer-small {size} a =
+      holder-size (k .s) (k .reply) (k .reply′) (k .st) (k .out) heard size (k .said) a (reply-most (k .st) (k .x) (k .bits) (k .msg) (length (k .reply)))
+
+  pub answer-replied : {size : ℕ} {s′ : List ℕ} → k .out .answer ≡ Replied size → s′ ≡ holderBytes (k .out .state) ++ drop 20 (k .s)
+      → record { result = size * 16; state = s′; reply = k .reply′ } ≡ holderLeaves
+  answer-replied {size} {s′} a h =
+      let n = k .whole in
+      let all : s′ ≡ holderBytes (k .out .state) = rw h (rw (drop-of-length-le (k .s) {i = 20} (omega arith)) (append-nil (holderBytes (k .out .state)))) in
+      holder-replied (k .s) (k .reply) (k .reply′) (k .st) (k .out) heard size s′ (k .said) a all ∙ called
 
 -- ---- the bytes carry the state: what a taken call leaves is read as its next state
 pub holder-carried : (s x : List ℕ) (bits : ℕ) (msg : List ℕ) (room : ℕ) (next : Holder) (m : List ℕ) → Bytes s → Bytes msg

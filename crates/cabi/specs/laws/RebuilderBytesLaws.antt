@@ -11,7 +11,7 @@ use Rattle.strings.specs.Bits.{atFront}
 use Rattle.strings.specs.StringRule.{stringRule}
 use Rattle.strings.specs.Refusals.{refusalNumber}
 use Rattle.strings.specs.declared.Refusal.{Refusal}
-use Rattle.codes.specs.Entries.{Answer, refusal, value}
+use Rattle.codes.specs.Entries.{refusal, value}
 use Rattle.messages.specs.declared.Question.{Question}
 use Rattle.messages.specs.declared.Question.the-variants.{AskOpen, AskHash, AskSyndrome, AskBits}
 use Rattle.numbers.specs.Numbers.{number}
@@ -29,8 +29,7 @@ use Rattle.protocol.specs.laws.Asking.{TakenCall, taken-call}
 use Rattle.protocol.specs.laws.Delivery.{started-is}
 use Rattle.rebuilder.specs.declared.StartAnswer.the-variants.{Begun, NotBegun}
 use Rattle.rebuilder.specs.declared.StartOut.{StartOut}
-use Rattle.rebuilder.specs.declared.RebuilderAnswer.{RebuilderAnswer}
-use Rattle.rebuilder.specs.declared.RebuilderAnswer.the-variants.{Asks, Finished, Refused}
+use Rattle.rebuilder.specs.declared.RebuilderAnswer.the-variants.{Refused}
 use Rattle.rebuilder.specs.declared.RebuilderOut.{RebuilderOut}
 use Rattle.rebuilder.specs.RebuilderOutcome.{startSaid, StartSaid, saidStart, leavesStart, callSaid, RebuilderSaid, saidRebuilder, nextSize, leavesRebuilder}
 use Rattle.ends.specs.laws.SheetCallLaws.{change-fits}
@@ -38,7 +37,7 @@ use Rattle.layout.specs.Layout.{rebuilderBytes, rebuilderOf}
 use Rattle.layout.specs.laws.LayoutLaws.{length-rebuilder}
 use Rattle.layout.specs.Sheet.{sheetBytesAfter}
 use Rattle.cabi.specs.Packing.{packed}
-use Rattle.cabi.specs.Calls.{startOnBytes, startLeft, rebuilderOnBytes, roomsIn, rebuilderLeft}
+use Rattle.cabi.specs.Calls.{startOnBytes, StartLeft, startLeft, rebuilderOnBytes, roomsIn, RebuilderLeft, rebuilderLeft}
 
 -- ---- a question has at most 16 bytes, whatever its numbers
 question-most : (q : Question) → length (questionBytes q) ≤ 16
@@ -69,14 +68,18 @@ taken-small st y bits msg rooms step next e =
     rw (k .asks) (written-most (planned (stepOf st y (length msg) (k .a) .state)))
 
 -- ---- the returns of the call
+-- what shall be left
+abbrev pub callLeaves : (s y : List ℕ) (bits : ℕ) (msg string sheet question : List ℕ) → RebuilderLeft
+callLeaves s y bits msg string sheet question = rebuilderLeft s string sheet question (rebuilderOnBytes s y bits msg (roomsIn string sheet question))
+
 module _ (s y : List ℕ) (bits : ℕ) (msg string sheet question : List ℕ) where
   pub call-bad-string : stringRule y bits ≡ false
-      → record { result = 2; state = s; string = string; sheet = sheet; question = question } ≡ rebuilderLeft s string sheet question (rebuilderOnBytes s y bits msg (roomsIn string sheet question))
+      → record { result = 2; state = s; string = string; sheet = sheet; question = question } ≡ callLeaves s y bits msg string sheet question
   unfolding rebuilderOnBytes packed
   call-bad-string e = rw e refl
 
   pub call-no-state : stringRule y bits ≡ true → (length s ≡ 564 → ⊥)
-      → record { result = 3; state = s; string = string; sheet = sheet; question = question } ≡ rebuilderLeft s string sheet question (rebuilderOnBytes s y bits msg (roomsIn string sheet question))
+      → record { result = 3; state = s; string = string; sheet = sheet; question = question } ≡ callLeaves s y bits msg string sheet question
   unfolding rebuilderOnBytes packed
   call-no-state e f = rw (e, ne-eqb (length s) 564 f) refl
 
@@ -85,16 +88,12 @@ module _ (s y : List ℕ) (bits : ℕ) (msg string sheet question : List ℕ) wh
   unfolding rebuilderOnBytes
   rebuilder-called e f = rw (e, eq-eqb (length s) 564 f) refl
 
--- the length of the question that an answer says
-abbrev saidSize : Answer (Option ℕ) → ℕ
-saidSize (value (some size)) = size
-saidSize (value none) = 0
-saidSize (refusal e) = 0
+-- the length of the next question
+abbrev pub sizeOf : Option ℕ → ℕ
+sizeOf (some size) = size
+sizeOf none = 0
 
-abbrev askedSize : RebuilderAnswer → ℕ
-askedSize a = saidSize (callSaid a)
-
-next-size : (m : List ℕ) → saidSize (value (nextSize m)) ≡ length m
+next-size : (m : List ℕ) → sizeOf (nextSize m) ≡ length m
 next-size [] = refl
 next-size (b ∷ m) = refl
 
@@ -114,65 +113,86 @@ module _ (s string sheet question string′ question′ : List ℕ) (st : Rebuil
       let i : callSaid (out .answer) ≡ refusal (refusalNumber e) = ap callSaid f in
       let z : _≡_ {A = ℕ} 0 1 = cc in absurd (omega arith)
 
-  said-taken : (t : Taken) (s′ sheet′ : List ℕ) → saidRebuilder out string′ question′ ≡ leavesRebuilder st string question t → ((v : ℕ) → callSaid (out .answer) ≡ refusal v → ⊥)
-      → s′ ≡ rebuilderBytes (out .state) → sheet′ ≡ sheetBytesAfter sheet (out .sheet)
-      → record { result = askedSize (out .answer) * 16; state = s′; string = string′; sheet = sheet′; question = question′ } ≡ rebuilderLeft s string sheet question t
-  unfolding packed
-  said-taken (refuses d) s′ sheet′ k n g h = absurd (n (refusalNumber d) (ap (λ (w : RebuilderSaid). w .answer) k))
-  said-taken (takes j m) s′ sheet′ k n g h =
-      let a : askedSize (out .answer) ≡ length m = ap (λ (w : RebuilderSaid). saidSize (w .answer)) k ∙ next-size m in
-      let b : out .state ≡ j .state = ap (λ (w : RebuilderSaid). w .state) k in
-      let c : out .sheet ≡ j .sheet = ap (λ (w : RebuilderSaid). w .sheet) k in
-      let d : string′ ≡ stringAfter string (j .string) = ap (λ (w : RebuilderSaid). w .string) k in
-      let f : question′ ≡ atFront m question = ap (λ (w : RebuilderSaid). w .question) k in
-      rw (a, g, b, h, c, d, f) refl
+  -- n is the length of the next question, if there is one
+  module _ (n : Option ℕ) (said : callSaid (out .answer) ≡ value n) where
+    said-size : (j : Step) (m : List ℕ) → saidRebuilder out string′ question′ ≡ leavesRebuilder st string question (takes j m) → sizeOf n ≡ length m
+    said-size j m k =
+        let a : callSaid (out .answer) ≡ value (nextSize m) = ap (λ (w : RebuilderSaid). w .answer) k in
+        let b : n ≡ nextSize m = cc in
+        ap sizeOf b ∙ next-size m
 
-  said-small : (t : Taken) → saidRebuilder out string′ question′ ≡ leavesRebuilder st string question t
-      → ((j : Step) (m : List ℕ) → t ≡ takes j m → length m ≤ 16) → askedSize (out .answer) ≤ 16
-  said-small (refuses d) k h = let c = ap (λ (w : RebuilderSaid). saidSize (w .answer)) k in omega arith
-  said-small (takes j m) k h = let c = ap (λ (w : RebuilderSaid). saidSize (w .answer)) k in let i = h j m refl in let l = next-size m in omega arith
+    said-taken : (t : Taken) (s′ sheet′ : List ℕ) → saidRebuilder out string′ question′ ≡ leavesRebuilder st string question t
+        → s′ ≡ rebuilderBytes (out .state) → sheet′ ≡ sheetBytesAfter sheet (out .sheet)
+        → record { result = sizeOf n * 16; state = s′; string = string′; sheet = sheet′; question = question′ } ≡ rebuilderLeft s string sheet question t
+    unfolding packed
+    said-taken (refuses d) s′ sheet′ k g h =
+        let a : callSaid (out .answer) ≡ refusal (refusalNumber d) = ap (λ (w : RebuilderSaid). w .answer) k in
+        let z : _≡_ {A = ℕ} 0 1 = cc in absurd (omega arith)
+    said-taken (takes j m) s′ sheet′ k g h =
+        let a = said-size j m k in
+        let b : out .state ≡ j .state = ap (λ (w : RebuilderSaid). w .state) k in
+        let c : out .sheet ≡ j .sheet = ap (λ (w : RebuilderSaid). w .sheet) k in
+        let d : string′ ≡ stringAfter string (j .string) = ap (λ (w : RebuilderSaid). w .string) k in
+        let f : question′ ≡ atFront m question = ap (λ (w : RebuilderSaid). w .question) k in
+        rw (a, g, b, h, c, d, f) refl
 
--- for the code: the answer's three cases; st is the state that was read
-module _ (s y : List ℕ) (bits : ℕ) (msg string sheet question string′ question′ : List ℕ) (st : Rebuilder) (out : RebuilderOut) (g : st ≡ rebuilderOf s)
-    (k : saidRebuilder out string′ question′ ≡ leavesRebuilder st string question (rebuilderCall st y bits msg (roomsIn string sheet question))) where
-  pub call-rows : 12 * rowsNeeded (out .sheet) ≤ length sheet
+    said-small : (t : Taken) → saidRebuilder out string′ question′ ≡ leavesRebuilder st string question t
+        → ((j : Step) (m : List ℕ) → t ≡ takes j m → length m ≤ 16) → sizeOf n ≤ 16
+    said-small (refuses d) k h =
+        let a : callSaid (out .answer) ≡ refusal (refusalNumber d) = ap (λ (w : RebuilderSaid). w .answer) k in
+        let z : _≡_ {A = ℕ} 0 1 = cc in absurd (omega arith)
+    said-small (takes j m) k h = let a = said-size j m k in let i = h j m refl in omega arith
+
+-- for the code: what is known where the call on the state that was read has answered
+pub record RebuilderCalled : Type 0 where
+  pub s : List ℕ
+  pub y : List ℕ
+  pub bits : ℕ
+  pub msg : List ℕ
+  pub string : List ℕ
+  pub sheet : List ℕ
+  pub question : List ℕ
+  pub string′ : List ℕ
+  pub question′ : List ℕ
+  pub st : Rebuilder
+  pub out : RebuilderOut
+  pub rule : stringRule y bits ≡ true
+  pub whole : length s ≡ 564
+  pub read : st ≡ rebuilderOf s
+  pub said : saidRebuilder out string′ question′ ≡ leavesRebuilder st string question (rebuilderCall st y bits msg (roomsIn string sheet question))
+
+module _ (k : RebuilderCalled) where
+  abbrev rooms : Rooms
+  rooms = roomsIn (k .string) (k .sheet) (k .question)
+
+  abbrev heard : Taken
+  heard = rebuilderCall (k .st) (k .y) (k .bits) (k .msg) rooms
+
+  pub call-rows : 12 * rowsNeeded (k .out .sheet) ≤ length (k .sheet)
   call-rows =
-      let r = change-fits st y bits msg (roomsIn string sheet question) string question string′ question′ out k in
+      let r = change-fits (k .st) (k .y) (k .bits) (k .msg) rooms (k .string) (k .question) (k .string′) (k .question′) (k .out) (k .said) in
       omega arith
 
-  asked-small : askedSize (out .answer) ≤ 16
-  asked-small =
-      said-small s string sheet question string′ question′ st out (rebuilderCall st y bits msg (roomsIn string sheet question)) k
-      (λ j m t. taken-small st y bits msg (roomsIn string sheet question) j m t)
+  called : rebuilderLeft (k .s) (k .string) (k .sheet) (k .question) heard ≡ callLeaves (k .s) (k .y) (k .bits) (k .msg) (k .string) (k .sheet) (k .question)
+  called = sym (rw (rebuilder-called (k .s) (k .y) (k .bits) (k .msg) (k .string) (k .sheet) (k .question) (k .rule) (k .whole), k .read) refl)
 
-  pub call-small : (size : ℕ) → out .answer ≡ Asks size → size ≤ 16
-  call-small size a = let b = ap askedSize a in let c = asked-small in omega arith
+  pub call-declined : {d : Refusal} {r : ℕ} → k .out .answer ≡ Refused d → r ≡ packed (refusal (refusalNumber d))
+      → record { result = r; state = k .s; string = k .string′; sheet = k .sheet; question = k .question′ } ≡ callLeaves (k .s) (k .y) (k .bits) (k .msg) (k .string) (k .sheet) (k .question)
+  call-declined {d} a h =
+      (rw h (said-declined (k .s) (k .string) (k .sheet) (k .question) (k .string′) (k .question′) (k .st) (k .out) heard d (k .said) a)) ∙ called
 
-  module _ (e : stringRule y bits ≡ true) (f : length s ≡ 564) where
-    called : rebuilderOnBytes s y bits msg (roomsIn string sheet question) ≡ rebuilderCall st y bits msg (roomsIn string sheet question)
-    called = rebuilder-called s y bits msg string sheet question e f ∙ ap (λ (z : Rebuilder). rebuilderCall z y bits msg (roomsIn string sheet question)) (sym g)
+  module _ {n : Option ℕ} (a : callSaid (k .out .answer) ≡ value n) where
+    pub call-small : sizeOf n ≤ 16
+    call-small =
+        said-small (k .s) (k .string) (k .sheet) (k .question) (k .string′) (k .question′) (k .st) (k .out) n a heard (k .said)
+        (taken-small (k .st) (k .y) (k .bits) (k .msg) rooms)
 
-    pub call-declined : (d : Refusal) (r : ℕ) → out .answer ≡ Refused d → r ≡ packed (refusal (refusalNumber d))
-        → record { result = r; state = s; string = string′; sheet = sheet; question = question′ } ≡ rebuilderLeft s string sheet question (rebuilderOnBytes s y bits msg (roomsIn string sheet question))
-    call-declined d r a h =
-        rw (called, h) (said-declined s string sheet question string′ question′ st out (rebuilderCall st y bits msg (roomsIn string sheet question)) d k a)
-
-    taken : (s′ sheet′ : List ℕ) (r : ℕ) → r ≡ askedSize (out .answer) * 16 → ((v : ℕ) → callSaid (out .answer) ≡ refusal v → ⊥) → s′ ≡ rebuilderBytes (out .state) ++ drop 564 s → sheet′ ≡ sheetBytesAfter sheet (out .sheet)
-        → record { result = r; state = s′; string = string′; sheet = sheet′; question = question′ } ≡ rebuilderLeft s string sheet question (rebuilderOnBytes s y bits msg (roomsIn string sheet question))
-    taken s′ sheet′ r a n h i =
-        let whole : rebuilderBytes (out .state) ++ drop 564 s ≡ rebuilderBytes (out .state)
-        = ap (λ (l : List ℕ). rebuilderBytes (out .state) ++ l) (drop-of-length-le s {i = 564} (let z = f in omega arith)) ∙ append-nil (rebuilderBytes (out .state)) in
-        rw (called, a) (said-taken s string sheet question string′ question′ st out (rebuilderCall st y bits msg (roomsIn string sheet question)) s′ sheet′ k n (h ∙ whole) i)
-
-    pub call-asks : (size r : ℕ) (s′ sheet′ : List ℕ) → out .answer ≡ Asks size → r ≡ size * 16 → s′ ≡ rebuilderBytes (out .state) ++ drop 564 s → sheet′ ≡ sheetBytesAfter sheet (out .sheet)
-        → record { result = r; state = s′; string = string′; sheet = sheet′; question = question′ } ≡ rebuilderLeft s string sheet question (rebuilderOnBytes s y bits msg (roomsIn string sheet question))
-    call-asks size r s′ sheet′ a h i j =
-        taken s′ sheet′ r (h ∙ ap (λ (n : ℕ). n * 16) (sym (ap askedSize a))) (λ v b. let c : value (some size) ≡ refusal v = sym (ap callSaid a) ∙ b in let z : _≡_ {A = ℕ} 0 1 = cc in omega arith) i j
-
-    pub call-finished : (r : ℕ) (s′ sheet′ : List ℕ) → out .answer ≡ Finished → r ≡ 0 → s′ ≡ rebuilderBytes (out .state) ++ drop 564 s → sheet′ ≡ sheetBytesAfter sheet (out .sheet)
-        → record { result = r; state = s′; string = string′; sheet = sheet′; question = question′ } ≡ rebuilderLeft s string sheet question (rebuilderOnBytes s y bits msg (roomsIn string sheet question))
-    call-finished r s′ sheet′ a h i j =
-        taken s′ sheet′ r (h ∙ ap (λ (n : ℕ). n * 16) (sym (ap askedSize a))) (λ v b. let c : value none ≡ refusal v = sym (ap callSaid a) ∙ b in let z : _≡_ {A = ℕ} 0 1 = cc in omega arith) i j
+    pub call-taken : {r : ℕ} {s′ sheet′ : List ℕ} → r ≡ sizeOf n * 16 → s′ ≡ rebuilderBytes (k .out .state) ++ drop 564 (k .s) → sheet′ ≡ sheetBytesAfter (k .sheet) (k .out .sheet)
+        → record { result = r; state = s′; string = k .string′; sheet = sheet′; question = k .question′ } ≡ callLeaves (k .s) (k .y) (k .bits) (k .msg) (k .string) (k .sheet) (k .question)
+    call-taken {r} {s′} {sheet′} h i j =
+        let w = k .whole in
+        let all : s′ ≡ rebuilderBytes (k .out .state) = rw i (rw (drop-of-length-le (k .s) {i = 564} (omega arith)) (append-nil (rebuilderBytes (k .out .state)))) in
+        (rw h (said-taken (k .s) (k .string) (k .sheet) (k .question) (k .string′) (k .question′) (k .st) (k .out) n a heard s′ sheet′ (k .said) all j)) ∙ called
 
 -- ---- the returns of the start
 module _ (S : Settings) (y : List ℕ) (bits : ℕ) (s question : List ℕ) where
@@ -240,22 +260,43 @@ module _ (s question question′ : List ℕ) (out : StartOut) where
       let b : size ≡ length m = cc in
       let i = h st m refl in omega arith
 
--- for the code: the answer's two cases; the settings were given as a struct
-module _ (S : Settings) {given : Settings} (same : given ≡ S) (y : List ℕ) (bits : ℕ) (s question question′ : List ℕ) (out : StartOut)
-    (said : saidStart out question′ ≡ leavesStart question (rebuilderStart given y bits (length question))) where
-  k : saidStart out question′ ≡ leavesStart question (rebuilderStart S y bits (length question))
-  k = said ∙ ap (λ (z : Settings). leavesStart question (rebuilderStart z y bits (length question))) same
+-- for the code: what is known where the start has answered; the settings were given as a struct
+pub record StartCalled : Type 0 where
+  pub S : Settings
+  pub given : Settings
+  pub y : List ℕ
+  pub bits : ℕ
+  pub s : List ℕ
+  pub question : List ℕ
+  pub question′ : List ℕ
+  pub out : StartOut
+  pub same : given ≡ S
+  pub limits : withinLimits S ≡ true
+  pub rule : stringRule y bits ≡ true
+  pub room : 564 ≤ length s
+  pub said : saidStart out question′ ≡ leavesStart question (rebuilderStart given y bits (length question))
 
-  pub start-small : (size : ℕ) → out .answer ≡ Begun size → size ≤ 16
-  start-small size a =
-      start-size s question question′ out (rebuilderStart S y bits (length question)) size k a
-      (λ st m t. rw (started-is S y bits (length question) st m t .question) (question-most (AskOpen (S .h) (S .key))))
+module _ (k : StartCalled) where
+  abbrev began : Started
+  began = rebuilderStart (k .S) (k .y) (k .bits) (length (k .question))
 
-  module _ (e : withinLimits S ≡ true) (f : stringRule y bits ≡ true) (h : 564 ≤ length s) where
-    pub start-declined : (d : Refusal) (r : ℕ) → out .answer ≡ NotBegun d → r ≡ packed (refusal (refusalNumber d))
-        → record { result = r; state = s; question = question′ } ≡ startLeft s question (startOnBytes S y bits (length s) (length question))
-    start-declined d r a i = rw (started S y bits s question e f h, i) (start-declines s question question′ out (rebuilderStart S y bits (length question)) d k a)
+  said-began : saidStart (k .out) (k .question′) ≡ leavesStart (k .question) began
+  said-began = k .said ∙ ap (λ (z : Settings). leavesStart (k .question) (rebuilderStart z (k .y) (k .bits) (length (k .question)))) (k .same)
 
-    pub start-begun : (size : ℕ) (s′ : List ℕ) → out .answer ≡ Begun size → s′ ≡ rebuilderBytes (out .state) ++ drop 564 s
-        → record { result = size * 16; state = s′; question = question′ } ≡ startLeft s question (startOnBytes S y bits (length s) (length question))
-    start-begun size s′ a i = rw (started S y bits s question e f h) (start-begins s question question′ out (rebuilderStart S y bits (length question)) size s′ k a i)
+  pub start-small : {size : ℕ} → k .out .answer ≡ Begun size → size ≤ 16
+  start-small {size} a =
+      start-size (k .s) (k .question) (k .question′) (k .out) began size said-began a
+      (λ st m t. rw (started-is (k .S) (k .y) (k .bits) (length (k .question)) st m t .question) (question-most (AskOpen (k .S .h) (k .S .key))))
+
+  abbrev pub startLeaves : StartLeft
+  startLeaves = startLeft (k .s) (k .question) (startOnBytes (k .S) (k .y) (k .bits) (length (k .s)) (length (k .question)))
+
+  began-leaves : startLeft (k .s) (k .question) began ≡ startLeaves
+  began-leaves = sym (rw (started (k .S) (k .y) (k .bits) (k .s) (k .question) (k .limits) (k .rule) (k .room)) refl)
+
+  pub start-declined : {d : Refusal} {r : ℕ} → k .out .answer ≡ NotBegun d → r ≡ packed (refusal (refusalNumber d)) → record { result = r; state = k .s; question = k .question′ } ≡ startLeaves
+  start-declined {d} a i = (rw i (start-declines (k .s) (k .question) (k .question′) (k .out) began d said-began a)) ∙ began-leaves
+
+  pub start-begun : {size : ℕ} {s′ : List ℕ} → k .out .answer ≡ Begun size → s′ ≡ rebuilderBytes (k .out .state) ++ drop 564 (k .s)
+      → record { result = size * 16; state = s′; question = k .question′ } ≡ startLeaves
+  start-begun {size} {s′} a i = start-begins (k .s) (k .question) (k .question′) (k .out) began size s′ said-began a i ∙ began-leaves
