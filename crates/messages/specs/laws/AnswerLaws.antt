@@ -93,36 +93,21 @@ answer-most len h (syndromeAnswer a x) m v = let b = v .0 in let e = syndrome-an
 answer-most len h (bitsAnswer l) m v = let b = v .0 in let e = bits-answer-size l in omega arith
 
 -- ---- as the code meets them: r is what a number reader gave
-module _ (s : List ℕ) (at : ℕ) {r : NumberRead} (p : r ≡ numberAt s at) where
-  pub size-none : {e : Refusal} → r ≡ NoNumber e → NoAnswer e ≡ sizeAt s at
-  unfolding sizeAt
-  size-none q = rw (← p, q) refl
+-- the answer o where the number n decides what it is
+module _ {o : AnswerRead} {r n : NumberRead} (p : r ≡ n) (f : ℕ → ℕ → AnswerRead) (so : o ≡ thenAnswer n f) where
+  pub answer-no-number : {e : Refusal} → r ≡ NoNumber e → NoAnswer e ≡ o
+  answer-no-number q = sym (so ∙ rw (← p, q) refl)
 
-  pub hash-none : (h : ℕ) {e : Refusal} → r ≡ NoNumber e → NoAnswer e ≡ hashAt h s at
-  unfolding hashAt
-  hash-none h q = rw (← p, q) refl
+  pub answer-number : {v b : ℕ} → r ≡ Value v b → o ≡ f v b
+  answer-number q = so ∙ rw (← p, q) refl
 
-  pub syndrome-none : (len h : ℕ) {e : Refusal} → r ≡ NoNumber e → NoAnswer e ≡ syndromeAt len h s at
-  unfolding syndromeAt
-  syndrome-none len h q = rw (← p, q) refl
-
-  pub size-one : {n end : ℕ} → r ≡ Value n end → sizeAt s at ≡ noAnswerIf (ltb end (length s)) LeftOver (noAnswerIf (ltb 65536 n) OutOfRange (IsSize n))
-  unfolding sizeAt
-  size-one q = rw (← p, q) refl
-
-  pub hash-one : (h : ℕ) {v end : ℕ} → r ≡ Value v end → hashAt h s at ≡ noAnswerIf (ltb end (length s)) LeftOver (noAnswerIf (leb (2 ^ h) v) OutOfRange (IsHash v))
-  unfolding hashAt
-  hash-one h q = rw (← p, q) refl
-
-  module _ {a b : ℕ} (q : r ≡ Value a b) {r₂ : NumberRead} (p₂ : r₂ ≡ numberAt s b) where
-    pub syndrome-one : (len h : ℕ) {e : Refusal} → r₂ ≡ NoNumber e → NoAnswer e ≡ syndromeAt len h s at
-    unfolding syndromeAt
-    syndrome-one len h q₂ = rw (← p, q, ← p₂, q₂) refl
-
-    pub syndrome-two : (len h : ℕ) {v end : ℕ} → r₂ ≡ Value v end
-        → syndromeAt len h s at ≡ noAnswerIf (ltb end (length s)) LeftOver (noAnswerIf (ltb len a) OutOfRange (noAnswerIf (leb (2 ^ h) v) OutOfRange (IsSyndrome a v)))
-    unfolding syndromeAt
-    syndrome-two len h q₂ = rw (← p, q, ← p₂, q₂) refl
+-- the tests of a syndrome and a hash that end at position end of size bytes
+abbrev pub syndromeIn : (len h size a v end : ℕ) → AnswerRead
+syndromeIn len h size a v end =
+    noAnswerIf (ltb end size) LeftOver (
+    noAnswerIf (ltb len a) OutOfRange (
+    noAnswerIf (leb (2 ^ h) v) OutOfRange (
+    IsSyndrome a v)))
 
 -- the bits, where t is the rest of the message
 module _ (len : ℕ) (s : List ℕ) (at : ℕ) (h : at ≤ length s) where
@@ -146,22 +131,19 @@ module _ (len : ℕ) (s : List ℕ) (at : ℕ) (h : at ≤ length s) where
     unfolding bitsAt
     bits-whole f = rw (le-ltb (length s) (at + bytesFor len) (omega arith), le-ltb (at + bytesFor len) (length s) (omega arith), ← rest-rule, f) refl
 
-module _ (kind : Kind) (len h : ℕ) (s : List ℕ) {r : NumberRead} (p : r ≡ numberAt s 0) where
-  pub answer-none : {e : Refusal} → r ≡ NoNumber e → NoAnswer e ≡ readAnswer kind len h s
+-- the kind's number v is known
+module _ (kind : Kind) (len h : ℕ) (s : List ℕ) {v at : ℕ} (q : numberAt s 0 ≡ Value v at) where
+  answer-kind : readAnswer kind len h s ≡ noAnswerIf (not (eqb v (kindNumber kind))) BadKind (answerFields kind len h s at)
   unfolding readAnswer
-  answer-none q = rw (← p, q) refl
+  answer-kind = rw q refl
 
-  pub answer-kind : {v at : ℕ} → r ≡ Value v at → readAnswer kind len h s ≡ noAnswerIf (not (eqb v (kindNumber kind))) BadKind (answerFields kind len h s at)
-  unfolding readAnswer
-  answer-kind q = rw (← p, q) refl
-
-  module _ {v at : ℕ} (q : r ≡ Value v at) {k : ℕ} (e : k ≡ kindNumber kind) where
+  module _ {k : ℕ} (e : k ≡ kindNumber kind) where
     pub answer-other : (v ≡ k → ⊥) → NoAnswer BadKind ≡ readAnswer kind len h s
-    answer-other n = sym (answer-kind q ∙ rw (ne-eqb v (kindNumber kind) (λ f. n (f ∙ sym e))) refl)
+    answer-other n = sym (answer-kind ∙ rw (ne-eqb v (kindNumber kind) (λ f. n (f ∙ sym e))) refl)
 
     -- the fields are those of the awaited kind
     pub answer-fields : v ≡ k → {o : AnswerRead} {j : Kind} → kind ≡ j → o ≡ answerFields j len h s at → o ≡ readAnswer kind len h s
-    answer-fields f d g = g ∙ sym (answer-kind q ∙ rw (eq-eqb v (kindNumber kind) (f ∙ e), d) refl)
+    answer-fields f d g = g ∙ sym (answer-kind ∙ rw (eq-eqb v (kindNumber kind) (f ∙ e), d) refl)
 
 -- ---- what was written is read
 -- what a reader of an answer's bytes says: bits begin with the second byte
@@ -186,22 +168,27 @@ module _ (len h : ℕ) (few : len ≤ 65536) (narrow : h ≤ 32) where
   hash-fits v l = let m = pow-mono {i = h} {j = 32} narrow in omega arith
 
   values-read : (a : Answer) (s : List ℕ) → Values len h a → drop 1 s ≡ valueBytes a → 1 ≤ length s → answerFields (answerKind a) len h s 1 ≡ readAs a
-  unfolding answerFields bitsAt
+  unfolding answerFields sizeAt hashAt syndromeAt bitsAt
   values-read (sizeAnswer n) s m d k =
       let z = size-some n in
       let l = ends-there s (number n) 1 d (omega arith) in
-      size-one s 1 refl (number-reads-last s 1 n (omega arith) d) ∙ rw (le-ltb (1 + length (number n)) (length s) (omega arith), le-ltb 65536 n m) refl
+      rw (number-reads-last s 1 n (omega arith) d, le-ltb (1 + length (number n)) (length s) (omega arith), le-ltb 65536 n m) refl
   values-read (hashAnswer v) s m d k =
       let z = size-some v in
       let l = ends-there s (number v) 1 d (omega arith) in
-      hash-one s 1 refl h (number-reads-last s 1 v (hash-fits v m) d) ∙ rw (le-ltb (1 + length (number v)) (length s) (omega arith), lt-leb (2 ^ h) v m) refl
+      rw (number-reads-last s 1 v (hash-fits v m) d, le-ltb (1 + length (number v)) (length s) (omega arith), lt-leb (2 ^ h) v m) refl
   values-read (syndromeAnswer a v) s m d k =
       let z = size-some a in
       let x = m .0 in
       let e = length-append (number a) (number v) in
       let l = ends-there s (number a ++ number v) 1 d (omega arith) in
-      syndrome-two s 1 refl (number-reads s (number v) 1 a (omega arith) d) refl len h (number-reads-last s (1 + length (number a)) v (hash-fits v (m .1)) (drop-past s (number a) (number v) 1 d))
-      ∙ rw (le-ltb (1 + length (number a) + length (number v)) (length s) (omega arith), le-ltb len a (m .0), lt-leb (2 ^ h) v (m .1)) refl
+      rw (
+        number-reads s (number v) 1 a (omega arith) d,
+        number-reads-last s (1 + length (number a)) v (hash-fits v (m .1)) (drop-past s (number a) (number v) 1 d),
+        le-ltb (1 + length (number a) + length (number v)) (length s) (omega arith),
+        le-ltb len a (m .0),
+        lt-leb (2 ^ h) v (m .1),
+      ) refl
   values-read (bitsAnswer l) s m d k =
       let e = length-drop 1 s in
       let f = ap length d ∙ length-pack l in
@@ -216,7 +203,7 @@ module _ (len h : ℕ) (few : len ≤ 65536) (narrow : h ≤ 32) where
       let g = kind-most (answerKind a) in
       let z = kind-size (answerKind a) in
       let o : 0 + length (number (kindNumber (answerKind a))) ≡ 1 = omega arith in
-      answer-kind k len h s refl (number-reads s (valueBytes a) 0 (kindNumber k) (omega arith) (answer-parts a))
+      answer-kind k len h s (number-reads s (valueBytes a) 0 (kindNumber k) (omega arith) (answer-parts a))
       ∙ rw (eq-eqb (kindNumber (answerKind a)) (kindNumber (answerKind a)) refl, o)
       (values-read a s m (answer-rest a) (let e = answer-size a in omega arith))
 

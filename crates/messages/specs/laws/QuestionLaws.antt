@@ -26,7 +26,7 @@ use Rattle.numbers.specs.Numbers.{number, numberAt}
 use Rattle.numbers.specs.laws.NumberLaws.{number-reads, number-reads-last, number-form, number-form-last, drop-past, ends-there, size-last, size-some, size-most, size-short}
 use Rattle.messages.specs.Kinds.{kindNumber, kindAt}
 use Rattle.messages.specs.laws.KindLaws.{kind-size, kind-reads, kind-form}
-use Rattle.messages.specs.Questions.{questionKind, asking, questionBytes, thenAsk, noQuestionIf, openingIn, openingAt, rangeIn, rangeAt, fieldsAt, thenFields, readQuestion}
+use Rattle.messages.specs.Questions.{questionKind, questionBytes, thenAsk, noQuestionIf, openingAt, rangeAt, fieldsAt, thenFields, readQuestion}
 
 -- ---- the limits of 01: h 8 to 32, key 1 to 2^32 - 1; a range of 1 bit or more that ends by n
 pub record OpeningWithin (h key : ℕ) : Type 0 where
@@ -106,57 +106,17 @@ pub question-size : (n : ℕ) (q : Question) → n ≤ 65536 → InRange n q →
 question-size n q m r = let h = field-size n q m r in let e = question-length q in omega arith
 
 -- ---- as the code meets them: r is what a number reader gave
-module _ (s : List ℕ) (at : ℕ) {r : NumberRead} (p : r ≡ numberAt s at) where
-  pub opening-none : {e : Refusal} → r ≡ NoNumber e → NoQuestion e ≡ openingAt s at
-  unfolding openingAt
-  opening-none q = rw (← p, q) refl
+-- the question o where the number n decides what it is
+module _ {o : QuestionRead} {r n : NumberRead} (p : r ≡ n) (f : ℕ → ℕ → QuestionRead) (so : o ≡ thenAsk n f) where
+  pub ask-no-number : {e : Refusal} → r ≡ NoNumber e → NoQuestion e ≡ o
+  ask-no-number q = sym (so ∙ rw (← p, q) refl)
 
-  pub range-none : (ask : ℕ → ℕ → Question) (n : ℕ) {e : Refusal} → r ≡ NoNumber e → NoQuestion e ≡ rangeAt ask s at n
-  unfolding rangeAt
-  range-none ask n q = rw (← p, q) refl
-
-  module _ {v b : ℕ} (q : r ≡ Value v b) {r₂ : NumberRead} (p₂ : r₂ ≡ numberAt s b) where
-    pub opening-one : {e : Refusal} → r₂ ≡ NoNumber e → NoQuestion e ≡ openingAt s at
-    unfolding openingAt
-    opening-one q₂ = rw (← p, q, ← p₂, q₂) refl
-
-    pub range-one : (ask : ℕ → ℕ → Question) (n : ℕ) {e : Refusal} → r₂ ≡ NoNumber e → NoQuestion e ≡ rangeAt ask s at n
-    unfolding rangeAt
-    range-one ask n q₂ = rw (← p, q, ← p₂, q₂) refl
-
-    pub range-two : (ask : ℕ → ℕ → Question) (n : ℕ) {len end : ℕ} → r₂ ≡ Value len end → rangeAt ask s at n ≡ rangeIn ask (length s) n v len end
-    unfolding rangeAt
-    range-two ask n q₂ = rw (← p, q, ← p₂, q₂) refl
-
-    module _ {h c : ℕ} (q₂ : r₂ ≡ Value h c) {r₃ : NumberRead} (p₃ : r₃ ≡ numberAt s c) where
-      pub opening-two : {e : Refusal} → r₃ ≡ NoNumber e → NoQuestion e ≡ openingAt s at
-      unfolding openingAt
-      opening-two q₃ = rw (← p, q, ← p₂, q₂, ← p₃, q₃) refl
-
-      pub opening-three : {key end : ℕ} → r₃ ≡ Value key end → openingAt s at ≡ openingIn (length s) v h key end
-      unfolding openingAt
-      opening-three q₃ = rw (← p, q, ← p₂, q₂, ← p₃, q₃) refl
-
--- the fields of a known kind
-module _ (s : List ℕ) (at n : ℕ) {k : Kind} where
-  pub fields-opening : k ≡ Open → openingAt s at ≡ fieldsAt k s at n
-  unfolding fieldsAt
-  fields-opening e = rw e refl
-
-  pub fields-hash : k ≡ Hash → rangeAt (asking k) s at n ≡ fieldsAt k s at n
-  unfolding fieldsAt
-  fields-hash e = rw e refl
-
-  pub fields-syndrome : k ≡ Syndrome → rangeAt (asking k) s at n ≡ fieldsAt k s at n
-  unfolding fieldsAt
-  fields-syndrome e = rw e refl
-
-  pub fields-bits : k ≡ Bits → rangeAt (asking k) s at n ≡ fieldsAt k s at n
-  unfolding fieldsAt
-  fields-bits e = rw e refl
+  pub ask-number : {v b : ℕ} → r ≡ Value v b → o ≡ f v b
+  ask-number q = so ∙ rw (← p, q) refl
 
 -- ---- what was written is read, wherever the fields stand
 pub opening-reads : (s : List ℕ) (at h key : ℕ) → OpeningWithin h key → key < 4294967296 → drop at s ≡ number 1 ++ (number h ++ number key) → openingAt s at ≡ Asked (AskOpen h key)
+unfolding openingAt
 opening-reads s at h key w m d =
     let x = w .h-most in
     let b = at + length (number 1) in
@@ -167,10 +127,19 @@ opening-reads s at h key w m d =
     let f = length-append (number h) (number key) in
     let z = size-some 1 in
     let l = ends-there s (number 1 ++ (number h ++ number key)) at d (omega arith) in
-    opening-three s at refl (number-reads s (number h ++ number key) at 1 (omega arith) d) refl (number-reads s (number key) b h (omega arith) d₁) refl (number-reads-last s c key m d₂)
-    ∙ rw (le-ltb (c + length (number key)) (length s) (omega arith), le-leb 8 h (w .h-least), le-leb h 32 (w .h-most), le-leb 1 key (w .key-least), le-leb key 4294967295 (omega arith)) refl
+    rw (
+      number-reads s (number h ++ number key) at 1 (omega arith) d,
+      number-reads s (number key) b h (omega arith) d₁,
+      number-reads-last s c key m d₂,
+      le-ltb (c + length (number key)) (length s) (omega arith),
+      le-leb 8 h (w .h-least),
+      le-leb h 32 (w .h-most),
+      le-leb 1 key (w .key-least),
+      le-leb key 4294967295 (omega arith),
+    ) refl
 
 pub range-reads : (ask : ℕ → ℕ → Question) (s : List ℕ) (at n start len : ℕ) → n ≤ 65536 → RangeWithin n start len → drop at s ≡ number start ++ number len → rangeAt ask s at n ≡ Asked (ask start len)
+unfolding rangeAt
 range-reads ask s at n start len m w d =
     let x = w .ends in
     let b = at + length (number start) in
@@ -178,8 +147,13 @@ range-reads ask s at n start len m w d =
     let e = length-append (number start) (number len) in
     let z = size-some start in
     let l = ends-there s (number start ++ number len) at d (omega arith) in
-    range-two s at refl (number-reads s (number len) at start (omega arith) d) refl ask n (number-reads-last s b len (omega arith) d₁)
-    ∙ rw (le-ltb (b + length (number len)) (length s) (omega arith), le-ltb len 1 (w .some), le-ltb n (start + len) x) refl
+    rw (
+      number-reads s (number len) at start (omega arith) d,
+      number-reads-last s b len (omega arith) d₁,
+      le-ltb (b + length (number len)) (length s) (omega arith),
+      le-ltb len 1 (w .some),
+      le-ltb n (start + len) x,
+    ) refl
 
 pub fields-read : (q : Question) (s : List ℕ) (at n : ℕ) → n ≤ 65536 → InRange n q → drop at s ≡ fieldBytes q → fieldsAt (questionKind q) s at n ≡ Asked q
 unfolding fieldsAt

@@ -5,7 +5,7 @@ use Rattle.numbers.specs.laws.NumberLaws.{number-inside}
 use Rattle.messages.specs.declared.Kind.{Kind}
 use Rattle.messages.specs.declared.AnswerRead.{AnswerRead}
 use Rattle.messages.specs.Answers.{answerFields, readAnswer}
-use Rattle.messages.specs.laws.AnswerLaws.{answer-none, answer-other, answer-fields}
+use Rattle.messages.specs.laws.AnswerLaws.{answer-no-number, answer-other, answer-fields}
 use borrow.Author.Needs.{needs}
 use Rattle.messages.proofs.answers.read_answer.Statement.{statement}
 use Rattle.messages.proofs.answers.read_answer.Tie as tie
@@ -17,7 +17,7 @@ number-read c = sym (c .before .before .next-number .ensures) ∙ c .v .given .1
 -- where it is the number of the awaited kind, that kind's fields decide
 fields-decide : (c : tie.Else1) {o : AnswerRead} {kind : Kind} → let v = c .before .before .before in let a = v .before .before .before .before .args in
     a .kind ≡ kind → o ≡ answerFields kind (a .len) (a .h) (a .s .now) (v .v .given .0 .1 .0) → o ≡ readAnswer (a .kind) (a .len) (a .h) (a .s .now)
-fields-decide c = answer-fields _ _ _ _ refl (number-read (c .before .before .before)) (c .before .kind-number .ensures) (c .if1 .left)
+fields-decide c = answer-fields _ _ _ _ (number-read (c .before .before .before)) (c .before .kind-number .ensures) (c .if1 .left)
 
 next-number-requires : tie.Need-next-number-requires
 next-number-requires c κs = search needs
@@ -32,7 +32,7 @@ kind-number-requires : tie.Need-kind-number-requires
 kind-number-requires c κs = search needs
 
 returns : tie.Need-returns
-returns c = answer-other _ _ _ _ refl (number-read (c .before .before .before)) (c .before .kind-number .ensures) (c .if1 .taken)
+returns c = answer-other _ _ _ _ (number-read (c .before .before .before)) (c .before .kind-number .ensures) (c .if1 .taken)
 
 enum-told : tie.Need-enum-told
 enum-told c = search needs
@@ -59,7 +59,8 @@ read-bits-requires : tie.Need-read-bits-requires
 read-bits-requires c κs = number-inside _ _ _ _ (number-read (c .before .before .before .before .before)) .1
 
 returns-2 : tie.Need-returns-2
-returns-2 c = answer-none _ _ _ _ (c .before .before .before .next-number .ensures) (c .before .e .given .1)
+unfolding readAnswer
+returns-2 c = answer-no-number (c .before .before .before .next-number .ensures) _ refl (c .before .e .given .1)
 
 returns-3 : tie.Need-returns-3
 unfolding answerFields

@@ -1,9 +1,21 @@
-use mathlib.Core.Path.{sym, _∙_}
+use mathlib.Core.Path.{_≡_, refl, sym, _∙_}
+use Prim.Native.Nat.{_^_}
+use lib.ListN.{length}
+use lib.Dec.{ltb, leb}
+use Rattle.strings.specs.declared.Refusal.the-variants.{LeftOver, OutOfRange}
+use Rattle.messages.specs.declared.AnswerRead.the-variants.{IsHash}
+use Rattle.messages.specs.Answers.{noAnswerIf, hashAt}
 use borrow.Author.Tests.{le-ltb, lt-ltb}
-use Rattle.messages.specs.laws.AnswerLaws.{hash-none, hash-one}
+use Rattle.messages.specs.laws.AnswerLaws.{answer-no-number, answer-number}
 use borrow.Author.Needs.{needs}
 use Rattle.messages.proofs.answers.read_hash.Statement.{statement}
 use Rattle.messages.proofs.answers.read_hash.Tie as tie
+
+-- what is left to test where the number is known
+v-read : (c : tie.After-v) → let a = c .before .before .before .before .args in let v = c .v .given .0 .0 in
+    hashAt (a .h) (a .s .now) (a .at) ≡ noAnswerIf (ltb (c .v .given .0 .1 .0) (length (a .s .now))) LeftOver (noAnswerIf (leb (2 ^ a .h) v) OutOfRange (IsHash v))
+unfolding hashAt
+v-read c = answer-number (c .before .before .next-number .ensures) _ refl (c .v .given .1)
 
 next-number-requires : tie.Need-next-number-requires
 next-number-requires c κs = search needs
@@ -15,29 +27,20 @@ enum-known-v : tie.Need-enum-known-v
 enum-known-v c = search needs
 
 returns : tie.Need-returns
-returns c = sym (hash-one _ _ (c .before .before .before .before .next-number .ensures) _ (c .before .before .v .given .1) ∙ simp (lt-ltb _ _ (c .if1 .taken)))
+returns c = sym (v-read (c .before .before) ∙ simp (lt-ltb _ _ (c .if1 .taken)))
 
 too-wide-requires : tie.Need-too-wide-requires
 too-wide-requires c κs = search needs
 
 returns-2 : tie.Need-returns-2
-returns-2 c =
-    let next-number = c .before .before .before .before .before .before .next-number in
-    let v = c .before .before .before .before .v in
-    let if1 = c .before .before .if1 in
-    let too-wide = c .before .too-wide in
-    sym (hash-one _ _ (next-number .ensures) _ (v .given .1) ∙ simp (le-ltb _ _ (if1 .left), sym (too-wide .ensures) ∙ c .if2 .taken))
+returns-2 c = sym (v-read (c .before .before .before .before) ∙ simp (le-ltb _ _ (c .before .before .if1 .left), sym (c .before .too-wide .ensures) ∙ c .if2 .taken))
 
 returns-3 : tie.Need-returns-3
-returns-3 c = hash-none _ _ (c .before .before .before .next-number .ensures) _ (c .before .e .given .1)
+unfolding hashAt
+returns-3 c = answer-no-number (c .before .before .before .next-number .ensures) _ refl (c .before .e .given .1)
 
 returns-4 : tie.Need-returns-4
-returns-4 c =
-    let next-number = c .before .before .before .before .before .before .next-number in
-    let v = c .before .before .before .before .v in
-    let if1 = c .before .before .if1 in
-    let too-wide = c .before .too-wide in
-    sym (hash-one _ _ (next-number .ensures) _ (v .given .1) ∙ simp (le-ltb _ _ (if1 .left), sym (too-wide .ensures) ∙ c .if2 .left))
+returns-4 c = sym (v-read (c .before .before .before .before) ∙ simp (le-ltb _ _ (c .before .before .if1 .left), sym (c .before .too-wide .ensures) ∙ c .if2 .left))
 
 pub read-hash-spec : {M : Type 1} → statement M
 read-hash-spec =

@@ -1,9 +1,30 @@
-use mathlib.Core.Path.{sym, _∙_}
+use mathlib.Core.Path.{_≡_, refl, sym, _∙_}
+use Prim.Native.Nat.{_^_}
+use lib.ListN.{length}
+use lib.Dec.{leb}
+use Rattle.strings.specs.declared.Refusal.the-variants.{OutOfRange}
+use Rattle.numbers.specs.Numbers.{numberAt}
+use Rattle.messages.specs.declared.AnswerRead.the-variants.{IsSyndrome}
+use Rattle.messages.specs.Answers.{thenAnswer, noAnswerIf, syndromeAt}
 use borrow.Author.Tests.{le-ltb, lt-ltb}
-use Rattle.messages.specs.laws.AnswerLaws.{syndrome-none, syndrome-one, syndrome-two}
+use Rattle.messages.specs.laws.AnswerLaws.{answer-no-number, answer-number, syndromeIn}
 use borrow.Author.Needs.{needs}
 use Rattle.messages.proofs.answers.read_syndrome.Statement.{statement}
 use Rattle.messages.proofs.answers.read_syndrome.Tie as tie
+
+-- what is left to read where the first number is known, and to test where the second is
+a-read : (c : tie.After-a) → let a = c .before .before .before .before .args in let s = a .s .now in
+    syndromeAt (a .len) (a .h) s (a .at) ≡ thenAnswer (numberAt s (c .a .given .0 .1 .0)) (syndromeIn (a .len) (a .h) (length s) (c .a .given .0 .0))
+unfolding syndromeAt
+a-read c = answer-number (c .before .before .next-number .ensures) _ refl (c .a .given .1)
+
+both-read : (c : tie.After-v) → let f = c .before .before .before .before in let a = f .before .before .before .before .args in let s = a .s .now in
+    syndromeAt (a .len) (a .h) s (a .at) ≡ syndromeIn (a .len) (a .h) (length s) (f .a .given .0 .0) (c .v .given .0 .0) (c .v .given .0 .1 .0)
+both-read c = answer-number (c .before .before .next-number2 .ensures) _ (a-read (c .before .before .before .before)) (c .v .given .1)
+
+in-range : (c : tie.Else2) → let v = c .before .before .before in let f = v .before .before .before .before in let a = f .before .before .before .before .args in
+    syndromeAt (a .len) (a .h) (a .s .now) (a .at) ≡ noAnswerIf (leb (2 ^ a .h) (v .v .given .0 .0)) OutOfRange (IsSyndrome (f .a .given .0 .0) (v .v .given .0 .0))
+in-range c = both-read (c .before .before .before) ∙ simp (le-ltb _ _ (c .before .if1 .left), le-ltb _ _ (c .if2 .left))
 
 next-number-requires : tie.Need-next-number-requires
 next-number-requires c κs = search needs
@@ -24,57 +45,26 @@ enum-known-v : tie.Need-enum-known-v
 enum-known-v c = search needs
 
 returns : tie.Need-returns
-returns c =
-    let next-number = c .before .before .before .before .before .before .before .before .next-number in
-    let a = c .before .before .before .before .before .before .a in
-    let next-number2 = c .before .before .before .before .next-number2 in
-    let v = c .before .before .v in
-    sym (syndrome-two _ _ (next-number .ensures) (a .given .1) (next-number2 .ensures) _ _ (v .given .1) ∙ simp (lt-ltb _ _ (c .if1 .taken)))
+returns c = sym (both-read (c .before .before) ∙ simp (lt-ltb _ _ (c .if1 .taken)))
 
 returns-2 : tie.Need-returns-2
-returns-2 c =
-    let next-number = c .before .before .before .before .before .before .before .before .before .next-number in
-    let a = c .before .before .before .before .before .before .before .a in
-    let next-number2 = c .before .before .before .before .before .next-number2 in
-    let v = c .before .before .before .v in
-    let if1 = c .before .if1 in
-    sym (syndrome-two _ _ (next-number .ensures) (a .given .1) (next-number2 .ensures) _ _ (v .given .1) ∙ simp (le-ltb _ _ (if1 .left), lt-ltb _ _ (c .if2 .taken)))
+returns-2 c = sym (both-read (c .before .before .before) ∙ simp (le-ltb _ _ (c .before .if1 .left), lt-ltb _ _ (c .if2 .taken)))
 
 too-wide-requires : tie.Need-too-wide-requires
 too-wide-requires c κs = search needs
 
 returns-3 : tie.Need-returns-3
-returns-3 c =
-    let next-number = c .before .before .before .before .before .before .before .before .before .before .before .next-number in
-    let a = c .before .before .before .before .before .before .before .before .before .a in
-    let next-number2 = c .before .before .before .before .before .before .before .next-number2 in
-    let v = c .before .before .before .before .before .v in
-    let if1 = c .before .before .before .if1 in
-    let if2 = c .before .before .if2 in
-    let too-wide = c .before .too-wide in
-    sym (syndrome-two _ _ (next-number .ensures) (a .given .1) (next-number2 .ensures) _ _ (v .given .1) ∙ simp (le-ltb _ _ (if1 .left), le-ltb _ _ (if2 .left), sym (too-wide .ensures) ∙ c .if3 .taken))
+returns-3 c = sym (in-range (c .before .before) ∙ simp (sym (c .before .too-wide .ensures) ∙ c .if3 .taken))
 
 returns-4 : tie.Need-returns-4
-returns-4 c = syndrome-none _ _ (c .before .before .before .next-number .ensures) _ _ (c .before .e .given .1)
+unfolding syndromeAt
+returns-4 c = answer-no-number (c .before .before .before .next-number .ensures) _ refl (c .before .e .given .1)
 
 returns-5 : tie.Need-returns-5
-returns-5 c =
-    let next-number = c .before .before .before .before .before .before .before .next-number in
-    let a = c .before .before .before .before .before .a in
-    let next-number2 = c .before .before .before .next-number2 in
-    let e2 = c .before .e2 in
-    syndrome-one _ _ (next-number .ensures) (a .given .1) (next-number2 .ensures) _ _ (e2 .given .1)
+returns-5 c = answer-no-number (c .before .before .before .next-number2 .ensures) _ (a-read (c .before .before .before .before .before)) (c .before .e2 .given .1)
 
 returns-6 : tie.Need-returns-6
-returns-6 c =
-    let next-number = c .before .before .before .before .before .before .before .before .before .before .before .next-number in
-    let a = c .before .before .before .before .before .before .before .before .before .a in
-    let next-number2 = c .before .before .before .before .before .before .before .next-number2 in
-    let v = c .before .before .before .before .before .v in
-    let if1 = c .before .before .before .if1 in
-    let if2 = c .before .before .if2 in
-    let too-wide = c .before .too-wide in
-    sym (syndrome-two _ _ (next-number .ensures) (a .given .1) (next-number2 .ensures) _ _ (v .given .1) ∙ simp (le-ltb _ _ (if1 .left), le-ltb _ _ (if2 .left), sym (too-wide .ensures) ∙ c .if3 .left))
+returns-6 c = sym (in-range (c .before .before) ∙ simp (sym (c .before .too-wide .ensures) ∙ c .if3 .left))
 
 pub read-syndrome-spec : {M : Type 1} → statement M
 read-syndrome-spec =

@@ -1,5 +1,5 @@
-use mathlib.Core.Path.{_∙_}
-use Rattle.messages.specs.laws.QuestionLaws.{fields-opening, fields-hash, fields-syndrome, fields-bits}
+use mathlib.Core.Path.{refl, _∙_}
+use Rattle.messages.specs.Questions.{fieldsAt}
 use borrow.Author.Needs.{needs}
 use Rattle.messages.proofs.questions.read_fields.Statement.{statement}
 use Rattle.messages.proofs.questions.read_fields.Tie as tie
@@ -29,16 +29,20 @@ read-range-requires-3 : tie.Need-read-range-requires-3
 read-range-requires-3 c κs = search needs
 
 returns : tie.Need-returns
-returns c = c .read-opening .ensures ∙ fields-opening _ _ _ (c .before .enum-told .given .1)
+unfolding fieldsAt
+returns c = c .read-opening .ensures ∙ rw (c .before .enum-told .given .1) refl
 
 returns-2 : tie.Need-returns-2
-returns-2 c = c .read-range .ensures ∙ fields-hash _ _ _ (c .before .enum-told2 .given .1)
+unfolding fieldsAt
+returns-2 c = c .read-range .ensures ∙ rw (c .before .enum-told2 .given .1) refl
 
 returns-3 : tie.Need-returns-3
-returns-3 c = c .read-range2 .ensures ∙ fields-syndrome _ _ _ (c .before .enum-told3 .given .1)
+unfolding fieldsAt
+returns-3 c = c .read-range2 .ensures ∙ rw (c .before .enum-told3 .given .1) refl
 
 returns-4 : tie.Need-returns-4
-returns-4 c = c .read-range3 .ensures ∙ fields-bits _ _ _ (c .before .enum-told4 .given .1)
+unfolding fieldsAt
+returns-4 c = c .read-range3 .ensures ∙ rw (c .before .enum-told4 .given .1) refl
 
 pub read-fields-spec : {M : Type 1} → statement M
 read-fields-spec =

@@ -1,8 +1,21 @@
-use mathlib.Core.Path.{sym, _∙_}
-use Rattle.messages.specs.laws.QuestionLaws.{opening-none, opening-one, opening-two, opening-three}
+use mathlib.Core.Path.{_≡_, refl, sym, _∙_}
+use lib.ListN.{length}
+use Rattle.numbers.specs.Numbers.{numberAt}
+use Rattle.messages.specs.Questions.{thenAsk, openingIn, openingAt}
+use Rattle.messages.specs.laws.QuestionLaws.{ask-no-number, ask-number}
 use borrow.Author.Needs.{needs}
 use Rattle.messages.proofs.questions.read_opening.Statement.{statement}
 use Rattle.messages.proofs.questions.read_opening.Tie as tie
+
+-- what is left to read where the version is known, and where h is
+version-read : (c : tie.After-version) → let a = c .before .before .before .before .args in let s = a .s .now in
+    openingAt s (a .at) ≡ thenAsk (numberAt s (c .version .given .0 .1 .0)) (λ h b. thenAsk (numberAt s b) (openingIn (length s) (c .version .given .0 .0) h))
+unfolding openingAt
+version-read c = ask-number (c .before .before .next-number .ensures) _ refl (c .version .given .1)
+
+h-read : (c : tie.After-h) → let v = c .before .before .before .before in let a = v .before .before .before .before .args in let s = a .s .now in
+    openingAt s (a .at) ≡ thenAsk (numberAt s (c .h .given .0 .1 .0)) (openingIn (length s) (v .version .given .0 .0) (c .h .given .0 .0))
+h-read c = ask-number (c .before .before .next-number2 .ensures) _ (version-read (c .before .before .before .before)) (c .h .given .1)
 
 next-number-requires : tie.Need-next-number-requires
 next-number-requires c κs = search needs
@@ -35,28 +48,17 @@ opening-in-requires : tie.Need-opening-in-requires
 opening-in-requires c κs = search needs
 
 returns : tie.Need-returns
-returns c = opening-none _ _ (c .before .before .before .next-number .ensures) (c .before .e .given .1)
+unfolding openingAt
+returns c = ask-no-number (c .before .before .before .next-number .ensures) _ refl (c .before .e .given .1)
 
 returns-2 : tie.Need-returns-2
-returns-2 c =
-    let next-number = c .before .before .before .before .before .before .before .next-number in
-    let version = c .before .before .before .before .before .version in
-    let next-number2 = c .before .before .before .next-number2 in
-    let e2 = c .before .e2 in
-    opening-one _ _ (next-number .ensures) (version .given .1) (next-number2 .ensures) (e2 .given .1)
+returns-2 c = ask-no-number (c .before .before .before .next-number2 .ensures) _ (version-read (c .before .before .before .before .before)) (c .before .e2 .given .1)
 
 returns-3 : tie.Need-returns-3
-returns-3 c =
-    let next-number = c .before .before .before .before .before .before .before .before .before .before .before .next-number in
-    let version = c .before .before .before .before .before .before .before .before .before .version in
-    let next-number2 = c .before .before .before .before .before .before .before .next-number2 in
-    let h = c .before .before .before .before .before .h in
-    let next-number3 = c .before .before .before .next-number3 in
-    let e3 = c .before .e3 in
-    opening-two _ _ (next-number .ensures) (version .given .1) (next-number2 .ensures) (h .given .1) (next-number3 .ensures) (e3 .given .1)
+returns-3 c = ask-no-number (c .before .before .before .next-number3 .ensures) _ (h-read (c .before .before .before .before .before)) (c .before .e3 .given .1)
 
 returns-4 : tie.Need-returns-4
-returns-4 c = c .opening-in .ensures ∙ sym (opening-three _ _ (c .before .before .before .before .before .before .before .before .before .before .before .before .next-number .ensures) (c .before .before .before .before .before .before .before .before .before .before .version .given .1) (c .before .before .before .before .before .before .before .before .next-number2 .ensures) (c .before .before .before .before .before .before .h .given .1) (c .before .before .before .before .next-number3 .ensures) (c .before .before .key .given .1))
+returns-4 c = c .opening-in .ensures ∙ sym (ask-number (c .before .before .before .before .next-number3 .ensures) _ (h-read (c .before .before .before .before .before .before)) (c .before .before .key .given .1))
 
 pub read-opening-spec : {M : Type 1} → statement M
 read-opening-spec =

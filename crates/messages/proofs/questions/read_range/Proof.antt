@@ -1,8 +1,17 @@
-use mathlib.Core.Path.{sym, _∙_}
-use Rattle.messages.specs.laws.QuestionLaws.{range-none, range-one, range-two}
+use mathlib.Core.Path.{_≡_, refl, sym, _∙_}
+use lib.ListN.{length}
+use Rattle.numbers.specs.Numbers.{numberAt}
+use Rattle.messages.specs.Questions.{asking, thenAsk, rangeIn, rangeAt}
+use Rattle.messages.specs.laws.QuestionLaws.{ask-no-number, ask-number}
 use borrow.Author.Needs.{needs}
 use Rattle.messages.proofs.questions.read_range.Statement.{statement}
 use Rattle.messages.proofs.questions.read_range.Tie as tie
+
+-- what is left to read where the start is known
+start-read : (c : tie.After-start) → let a = c .before .before .before .before .args in let s = a .s .now in
+    rangeAt (asking (a .kind)) s (a .at) (a .n) ≡ thenAsk (numberAt s (c .start .given .0 .1 .0)) (rangeIn (asking (a .kind)) (length s) (a .n) (c .start .given .0 .0))
+unfolding rangeAt
+start-read c = ask-number (c .before .before .next-number .ensures) _ refl (c .start .given .1)
 
 next-number-requires : tie.Need-next-number-requires
 next-number-requires c κs = search needs
@@ -26,18 +35,14 @@ range-in-requires : tie.Need-range-in-requires
 range-in-requires c κs = search needs
 
 returns : tie.Need-returns
-returns c = range-none _ _ (c .before .before .before .next-number .ensures) _ _ (c .before .e .given .1)
+unfolding rangeAt
+returns c = ask-no-number (c .before .before .before .next-number .ensures) _ refl (c .before .e .given .1)
 
 returns-2 : tie.Need-returns-2
-returns-2 c =
-    let next-number = c .before .before .before .before .before .before .before .next-number in
-    let start = c .before .before .before .before .before .start in
-    let next-number2 = c .before .before .before .next-number2 in
-    let e2 = c .before .e2 in
-    range-one _ _ (next-number .ensures) (start .given .1) (next-number2 .ensures) _ _ (e2 .given .1)
+returns-2 c = ask-no-number (c .before .before .before .next-number2 .ensures) _ (start-read (c .before .before .before .before .before)) (c .before .e2 .given .1)
 
 returns-3 : tie.Need-returns-3
-returns-3 c = c .range-in .ensures ∙ sym (range-two _ _ (c .before .before .before .before .before .before .before .before .next-number .ensures) (c .before .before .before .before .before .before .start .given .1) (c .before .before .before .before .next-number2 .ensures) _ _ (c .before .before .len .given .1))
+returns-3 c = c .range-in .ensures ∙ sym (ask-number (c .before .before .before .before .next-number2 .ensures) _ (start-read (c .before .before .before .before .before .before)) (c .before .before .len .given .1))
 
 pub read-range-spec : {M : Type 1} → statement M
 read-range-spec =
