@@ -15,8 +15,8 @@ use Rattle.messages.specs.Questions.{questionBytes}
 use Rattle.messages.specs.declared.Question.{Question}
 use Rattle.messages.specs.declared.Question.the-variants.{AskBits, AskHash, AskOpen, AskSyndrome}
 use Rattle.protocol.specs.Limits.{Limits, withinLimits}
-use Rattle.protocol.specs.laws.Moves.{effectState, moved-effect, moved-push}
-use Rattle.protocol.specs.RebuilderCall.{clears, effectStep, freshRebuilder, keeps, noRow, numberedStage, openedState, openingStep, questionLength, rebuilderStart, sheetAfter, Started, starts, stepOf, stringAfter, StringChange, tallied, unlessStarted, wholeStep, writes}
+use Rattle.protocol.specs.laws.Moves.{effectState, moved-effect, moved-opening}
+use Rattle.protocol.specs.RebuilderCall.{Started, StringChange, clears, effectStep, freshRebuilder, keeps, noRow, numberedStage, openingStep, questionLength, rebuilderStart, sheetAfter, starts, stepOf, stringAfter, tallied, unlessStarted, wholeStep, writes}
 use Rattle.protocol.specs.Runs.{Run, advance, judge, opening, question, sizeOf, string, whole, working}
 use Rattle.protocol.specs.Segments.{Effect, Segment, Stage, anchors, ask, asks, dropped, effect, hashing, newRows, puttingIn, settled, settles, splits, stays, step, takingOut, theBits, theSize, waiting, waits}
 use Rattle.protocol.specs.laws.Shape.{Inside}
@@ -110,9 +110,7 @@ effect-answered st size (stays t) e = tallied-answered st (retried st) size 0 e
 effect-answered st size (splits s r b) e = tallied-answered st (splitAt st s r) size 1 e
 
 opening-answered : (st : Rebuilder) (n : ℕ) → length (st .pieces) ≡ 32 → openingStep st n .state .answered ≡ st .answered + 1
-unfolding openingStep restaged
-opening-answered st n arr =
-    moved-push (openedState st n) arr (record { x = 0; p = n; y = 0; q = st .ybits }) (omega arith) .answered
+opening-answered st n arr = moved-opening st n arr .answered
 
 whole-answered : (st : Rebuilder) (size : ℕ) (l : List Bool) → wholeStep st size l .state .answered ≡ st .answered + 1
 unfolding wholeStep

@@ -1,7 +1,7 @@
 -- What popping, pushing and splitting make of the array of waiting pieces.
 use mathlib.Core.Path.{_≡_, refl, ap, ap₂, _∙_}
 use mathlib.Core.Bool.{Bool, true, false, cond}
-use mathlib.Core.List.{List, _∷_}
+use mathlib.Core.List.{List, [], _∷_}
 use Prim.Native.Nat.{ℕ, zero, suc, _+_, _-_, _≤_, _<_}
 use native.Mathlib.Numerals.{add-one}
 use native.Mathlib.Omega.{arith}
@@ -12,6 +12,7 @@ use lib.Dec.{eqb}
 use Rattle.protocol.specs.Runs.{blank}
 use Rattle.protocol.specs.Segments.{Effect, settles, splits, stays, waiting}
 use Rattle.protocol.specs.laws.StackLaws.{held-push, held-set}
+use Rattle.protocol.specs.RebuilderCall.{openedState, openingStep}
 use Rattle.protocol.specs.States.{held, leftPiece, noPiece, popped, pushed, restaged, retried, rightPiece, splitAt, stacked, top}
 use Rattle.protocol.specs.laws.Store.{push, stackAfter}
 use Rattle.protocol.specs.declared.Piece.{Piece}
@@ -41,78 +42,12 @@ pub record Moved (st s : Rebuilder) (l : List Piece) : Type 0 where
   pub few : s .waiting ≤ 32
   pub blank : Blank (st .pieces) (st .waiting) → Blank (s .pieces) (s .waiting)
 
-module _ (st : Rebuilder) (arr : length (st .pieces) ≡ 32) where
-  pub moved-pop : 0 < st .waiting → st .waiting ≤ 32 → Moved st (popped st) (held (st .waiting - 1) (st .pieces))
-  unfolding popped
-  moved-pop pos few = record {
-    settings = refl;
-    ybits = refl;
-    phase = refl;
-    n = refl;
-    answered = refl;
-    counted = refl;
-    rows = refl;
-    array = length-set (st .pieces) (st .waiting - 1) noPiece ∙ arr;
-    stack = held-set (st .waiting - 1) (st .waiting - 1) (st .pieces) noPiece (omega arith);
-    few = omega arith;
-    blank = λ b i h k. go b i h k (ℕ-discrete i (st .waiting - 1));
-  }
-    where
-      go : Blank (st .pieces) (st .waiting) → (i : ℕ) → st .waiting - 1 ≤ i → i < 32 → Dec (i ≡ st .waiting - 1) → getD (set (st .pieces) (st .waiting - 1) noPiece) i noPiece ≡ noPiece
-      go b i h k (yes e) = rw e (getD-set-same (st .pieces) (st .waiting - 1) noPiece noPiece (omega arith))
-      go b i h k (no e) = getD-set-other (st .pieces) (st .waiting - 1) i noPiece noPiece e ∙ b i (omega arith) k
+moved-stack : (st : Rebuilder) (t w : ℕ) (arr l : List Piece) → length arr ≡ 32 → held w arr ≡ l → w ≤ 32 → (Blank (st .pieces) (st .waiting) → Blank arr w) → Moved st (stacked st t w arr) l
+moved-stack st t w arr l a h f b = record { settings = refl; ybits = refl; phase = refl; n = refl; answered = refl; counted = refl; rows = refl; array = a; stack = h; few = f; blank = b }
 
-  pub moved-push : (pc : Piece) → st .waiting < 32 → Moved st (pushed st pc) (push pc (held (st .waiting) (st .pieces)))
-  unfolding pushed
-  moved-push pc few = go (eqb (pc .p) 0)
-    where
-      go : (t : Bool) → Moved st (cond t st (stacked st (st .stage) (st .waiting + 1) (set (st .pieces) (st .waiting) pc))) (cond t (held (st .waiting) (st .pieces)) (pc ∷ held (st .waiting) (st .pieces)))
-      go true = record {
-        settings = refl;
-        ybits = refl;
-        phase = refl;
-        n = refl;
-        answered = refl;
-        counted = refl;
-        rows = refl;
-        array = arr;
-        stack = refl;
-        few = omega arith;
-        blank = λ b. b;
-      }
-      go false = record {
-        settings = refl;
-        ybits = refl;
-        phase = refl;
-        n = refl;
-        answered = refl;
-        counted = refl;
-        rows = refl;
-        array = length-set (st .pieces) (st .waiting) pc ∙ arr;
-        stack = rw add-one (held-push (st .waiting) (st .pieces) pc (omega arith));
-        few = omega arith;
-        blank = λ b i h k. getD-set-other (st .pieces) (st .waiting) i pc noPiece (λ e. omega arith) ∙ b i (omega arith) k;
-      }
-
-  pub moved-retry : st .waiting ≤ 32 → Moved st (retried st) (held (st .waiting) (st .pieces))
-  unfolding retried
-  moved-retry few = record { settings = refl; ybits = refl; phase = refl; n = refl; answered = refl; counted = refl; rows = refl; array = arr; stack = refl; few = few; blank = λ b. b }
-
-pub moved-restage : (st s : Rebuilder) (l : List Piece) → Moved st s l → Moved st (restaged s) l
-unfolding restaged
-moved-restage st s l m = record {
-  settings = m .settings;
-  ybits = m .ybits;
-  phase = m .phase;
-  n = m .n;
-  answered = m .answered;
-  counted = m .counted;
-  rows = m .rows;
-  array = m .array;
-  stack = m .stack;
-  few = m .few;
-  blank = m .blank;
-}
+-- at another stage
+moved-stage : (st : Rebuilder) (t : ℕ) → length (st .pieces) ≡ 32 → st .waiting ≤ 32 → Moved st (stacked st t (st .waiting) (st .pieces)) (held (st .waiting) (st .pieces))
+moved-stage st t arr few = moved-stack st t (st .waiting) (st .pieces) _ arr refl few (λ b. b)
 
 pub moved-then : (st s u : Rebuilder) (l k : List Piece) → Moved st s l → Moved s u k → Moved st u k
 moved-then st s u l k m o = record {
@@ -128,6 +63,48 @@ moved-then st s u l k m o = record {
   few = o .few;
   blank = λ b. o .blank (m .blank b);
 }
+
+module _ (st : Rebuilder) (arr : length (st .pieces) ≡ 32) where
+  pub moved-pop : 0 < st .waiting → st .waiting ≤ 32 → Moved st (popped st) (held (st .waiting - 1) (st .pieces))
+  unfolding popped
+  moved-pop pos few =
+      moved-stack st (st .stage) (st .waiting - 1) (set (st .pieces) (st .waiting - 1) noPiece) _
+      (length-set (st .pieces) (st .waiting - 1) noPiece ∙ arr)
+      (held-set (st .waiting - 1) (st .waiting - 1) (st .pieces) noPiece (omega arith))
+      (omega arith)
+      (λ b i h k. go b i h k (ℕ-discrete i (st .waiting - 1)))
+    where
+      go : Blank (st .pieces) (st .waiting) → (i : ℕ) → st .waiting - 1 ≤ i → i < 32 → Dec (i ≡ st .waiting - 1) → getD (set (st .pieces) (st .waiting - 1) noPiece) i noPiece ≡ noPiece
+      go b i h k (yes e) = rw e (getD-set-same (st .pieces) (st .waiting - 1) noPiece noPiece (omega arith))
+      go b i h k (no e) = getD-set-other (st .pieces) (st .waiting - 1) i noPiece noPiece e ∙ b i (omega arith) k
+
+  pub moved-push : (pc : Piece) → st .waiting < 32 → Moved st (pushed st pc) (push pc (held (st .waiting) (st .pieces)))
+  unfolding pushed
+  moved-push pc few = go (eqb (pc .p) 0)
+    where
+      go : (t : Bool) → Moved st (cond t st (stacked st (st .stage) (st .waiting + 1) (set (st .pieces) (st .waiting) pc))) (cond t (held (st .waiting) (st .pieces)) (pc ∷ held (st .waiting) (st .pieces)))
+      go true = moved-stage st (st .stage) arr (omega arith)
+      go false =
+          moved-stack st (st .stage) (st .waiting + 1) (set (st .pieces) (st .waiting) pc) _
+          (length-set (st .pieces) (st .waiting) pc ∙ arr)
+          (rw add-one (held-push (st .waiting) (st .pieces) pc (omega arith)))
+          (omega arith)
+          (λ b i h k. getD-set-other (st .pieces) (st .waiting) i pc noPiece (λ e. omega arith) ∙ b i (omega arith) k)
+
+  pub moved-retry : st .waiting ≤ 32 → Moved st (retried st) (held (st .waiting) (st .pieces))
+  unfolding retried
+  moved-retry few = moved-stage st _ arr few
+
+pub moved-restage : (st s : Rebuilder) (l : List Piece) → Moved st s l → Moved st (restaged s) l
+unfolding restaged
+moved-restage st s l m = moved-then st s (restaged s) l l m (moved-stack s _ (s .waiting) (s .pieces) l (m .array) (m .stack) (m .few) (λ b. b))
+
+-- the opening's answer: the first piece is pushed on a state with none
+pub moved-opening : (st : Rebuilder) (n : ℕ) → length (st .pieces) ≡ 32 → Moved (openedState st n) (openingStep st n .state) (push (record { x = 0; p = n; y = 0; q = st .ybits }) [])
+unfolding openingStep
+moved-opening st n arr =
+    let pc : Piece = record { x = 0; p = n; y = 0; q = st .ybits } in
+    moved-restage (openedState st n) (pushed (openedState st n) pc) _ (moved-push (openedState st n) arr pc (omega arith))
 
 moved-to : (st s : Rebuilder) (l k : List Piece) → l ≡ k → Moved st s l → Moved st s k
 moved-to st s l k e m = rw e at m

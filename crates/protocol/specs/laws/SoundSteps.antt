@@ -15,8 +15,8 @@ use Rattle.protocol.specs.Anchors.{fits}
 use Rattle.protocol.specs.laws.Counts.{Sane, cut, deep, deeper, sane}
 use Rattle.protocol.specs.Soundness.{bound, asksLeft, openingSound, rowsLeft, sound, stageFits, topFits}
 use Rattle.protocol.specs.Limits.{Limits}
-use Rattle.protocol.specs.laws.Moves.{Blank, effectState, held-top, moved-effect, moved-push}
-use Rattle.protocol.specs.RebuilderCall.{counting, effectStep, freshRebuilder, numberedStage, openedState, openingStep, stepOf, tallied, wholeState, wholeStep}
+use Rattle.protocol.specs.laws.Moves.{Blank, effectState, held-top, moved-effect, moved-opening}
+use Rattle.protocol.specs.RebuilderCall.{counting, effectStep, freshRebuilder, numberedStage, openedState, openingStep, stepOf, tallied, wholeStep}
 use Rattle.protocol.specs.laws.Right.{StageOk}
 use Rattle.protocol.specs.Runs.{blank, sizeOf, full}
 use Rattle.protocol.specs.Segments.{Effect, Stage, asks, effect, settles, splits, stays, theBits, theSize, waiting}
@@ -251,12 +251,11 @@ fresh-sound S bits L h = (
 
 -- the opening's answer
 pub opening-sound : (st : Rebuilder) (n : ℕ) → length (st .pieces) ≡ 32 → Framed st → OpeningIs st → n ≤ 65536 → Sound′ (openingStep st n .state)
-unfolding openingStep restaged
+unfolding openingStep
 opening-sound st n arr f k h =
-    let st′ : Rebuilder = openedState st n in
+    let s = openingStep st n .state in
     let pc : Piece = record { x = 0; p = n; y = 0; q = st .ybits } in
-    let m = moved-push st′ arr pc (omega arith) in
-    let s = pushed st′ pc in
+    let m = moved-opening st n arr in
     let po = push-ordered (st .settings) (f .limits) n (st .ybits) 0 0 pc [] (omega arith) (omega arith) (omega arith) (omega arith) h tt in
     let pr = push-rows (st .settings) (f .limits) pc [] in
     let pa = push-asks (st .settings) (f .limits) pc [] in
@@ -265,9 +264,9 @@ opening-sound st n arr f k h =
     let fc = f .copy in
     let mw = m .answered in
     let bl : Blank (st .pieces) 0 = rw kw at (f .blank) in
-    let fits = restaged-fits (pushed st′ pc) in (
-      is-sound (restaged s) record { limits = rw (m .settings) (f .limits); copy = rw (m .ybits) fc; size = rw (m .n) h; few = m .few; blank = m .blank bl }
-          (phase-pieces (restaged s) (m .phase) ∙ is-pieces (restaged s) record {
+    let fits = restaged-fits (pushed (openedState st n) pc) in (
+      is-sound s record { limits = rw (m .settings) (f .limits); copy = rw (m .ybits) fc; size = rw (m .n) h; few = m .few; blank = m .blank bl }
+          (phase-pieces s (m .phase) ∙ is-pieces s record {
             stack = record { fits = fits; order = rw (m .n, m .ybits, m .stack) po; rows = rw (m .rows, m .settings, m .n, m .stack) (unfold rowsLeft in omega arith) };
             answered = rw (m .answered) (omega arith);
             asks = rw (m .answered, m .settings, m .n, m .stack) (unfold asksLeft in omega arith);
@@ -280,7 +279,7 @@ opening-sound st n arr f k h =
 pub whole-sound : (st : Rebuilder) (size : ℕ) (l : List Bool) → Framed st → WholeIs st → size ≤ full (st .n) → Sound′ (wholeStep st size l .state)
 unfolding wholeStep topFits rowsLeft asksLeft
 whole-sound st size l f k h =
-    let s : Rebuilder = wholeState st size in
+    let s = wholeStep st size l .state in
     let a = k .asks in let c = k .counted in let b = k .answered in (
       is-sound s record { limits = f .limits; copy = f .copy; size = f .size; few = omega arith; blank = zero-blank 0 }
           (phase-pieces s refl ∙ is-pieces s record {
