@@ -1,6 +1,5 @@
 // What a host calls, on any bytes and numbers.
 ghost use mathlib.Core.Path.{_≡_};
-ghost use mathlib.Core.List.{_++_};
 ghost use Prim.Native.Nat.{_≤_};
 ghost use lib.ListN.{length};
 ghost use Rattle.codes.specs.Entries.{said, saidRepair, leaves, syndromeCall, hashCall, repairCall, repairRange, hashSettings};

@@ -1,6 +1,6 @@
 // The bytes of a holder's and of a rebuilder's state (docs/LAYOUT.md). An entry point tests the slice's length before it comes here.
 ghost use mathlib.Core.Path.{_≡_};
-ghost use mathlib.Core.List.{List, [], _∷_, _++_};
+ghost use mathlib.Core.List.{[], _++_};
 ghost use Prim.Native.Nat.{_+_, _≤_};
 ghost use lib.ListN.{length, drop, replicate};
 ghost use lib.Seq.{sets};

@@ -1,7 +1,6 @@
 // What the two ends are to do: the settings, the states and the sheet's rows, with the definitions and theorems of specs/.
 ghost use mathlib.Core.Path.{_≡_};
-ghost use mathlib.Core.Bool.{Bool, true, false, _&&_};
-ghost use Prim.Native.Nat.{ℕ, _≤_};
+ghost use mathlib.Core.Bool.{true, false, _&&_};
 ghost use Rattle.strings.specs.SettingLimits.{between};
 ghost use Rattle.protocol.specs.Limits.{houseSettings, withinLimits};
 

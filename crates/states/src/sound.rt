@@ -1,10 +1,7 @@
 // Tests of what is handed in: settings within their limits, and states that a run can hold (01, refusals 1 and 3; docs/STATE.md).
 ghost use mathlib.Core.Path.{_≡_};
-ghost use mathlib.Core.Bool.{Bool, true, false, _&&_};
-ghost use Prim.Native.Nat.{ℕ, _+_, _-_, _*_, _/_, max, _≤_, _<_};
-ghost use lib.Dec.{leb};
-ghost use Rattle.strings.specs.SettingLimits.{between};
-ghost use Rattle.protocol.specs.Limits.{withinLimits};
+ghost use mathlib.Core.Bool.{true, false};
+ghost use Prim.Native.Nat.{_+_, _-_, _*_, _/_, max, _≤_, _<_};
 ghost use Rattle.protocol.specs.Soundness.{bound, holderSound, isBlank, blankFrom, pieceFits, inOrder, stageFits, stackSound, openingSound, piecesSound, wholeSound, sound, topFits, rowsFit, asksFit, lastAskFits, mostCounted, phaseSound};
 ghost use Rattle.protocol.specs.Runs.{full};
 ghost use Rattle.protocol.specs.States.{held};

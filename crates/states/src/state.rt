@@ -1,9 +1,9 @@
 // The rebuilder's state by value: the stack of waiting pieces, stages, counts, and the question that a state asks.
 ghost use mathlib.Core.Path.{_≡_};
-ghost use mathlib.Core.Bool.{Bool, true, false, _&&_};
-ghost use Prim.Native.Nat.{ℕ, _+_, _-_, _*_, _/_, _≤_, _<_};
+ghost use mathlib.Core.Bool.{true};
+ghost use Prim.Native.Nat.{_+_, _-_, _*_, _/_, _≤_, _<_};
 ghost use Rattle.protocol.specs.Segments.{tooSmall};
-ghost use Rattle.protocol.specs.States.{noPiece, top, popped, pushed, restaged, retried, splitAt, laterNumber, firstNumber, nextNumber, anchorOffset, askFor, planned};
+ghost use Rattle.protocol.specs.States.{top, popped, pushed, restaged, retried, splitAt, laterNumber, firstNumber, nextNumber, anchorOffset, askFor, planned};
 ghost use Rattle.protocol.specs.RebuilderCall.{tallied, openingStep, wholeState, freshRebuilder};
 ghost use Rattle.states.specs.code.StateCode.{withinOne, planOf, Usable, Holds, Stages, Retries, Offsets, Splits, Counts, Asks, Plans};
 use messages::Question;

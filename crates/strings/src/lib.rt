@@ -1,8 +1,8 @@
 // Bit strings packed in bytes: the lowest of the four layers. First bit in the most significant place. Functions on a bit or a range
 // require that it lies in the string: the layers above know this, and a test at each bit would be for nothing.
 ghost use mathlib.Core.Path.{_≡_};
-ghost use mathlib.Core.Bool.{Bool, true, false};
-ghost use Prim.Native.Nat.{ℕ, _+_, _*_, _≤_, _<_};
+ghost use mathlib.Core.Bool.{true, false};
+ghost use Prim.Native.Nat.{_+_, _*_, _≤_, _<_};
 ghost use lib.ListN.{length};
 ghost use Rattle.strings.specs.Bits.{bitAt, range, setBit, writeBits, sameBits, cleared, Part, Eight};
 ghost use Rattle.strings.specs.StringRule.{stringRule};

@@ -4,11 +4,10 @@ use mathlib.Core.List.{List, [], _∷_, _++_}
 use mathlib.Core.Option.{Option, none, some}
 use Prim.Native.Nat.{ℕ, zero, suc, _+_, _*_, _/_, _≤_, _<_}
 use native.Mathlib.Omega.{arith}
-use lib.ListN.{length}
 use lib.Seq.{append-snoc}
-use Rattle.messages.specs.Answers.{Answer, answerBytes}
+use Rattle.messages.specs.Answers.{answerBytes}
 use Rattle.messages.specs.laws.QuestionLaws.{question-reads}
-use Rattle.messages.specs.Questions.{questionBytes, readQuestion}
+use Rattle.messages.specs.Questions.{readQuestion}
 use Rattle.messages.specs.declared.Question.{Question}
 use Rattle.messages.specs.declared.QuestionRead.the-variants.{Asked}
 use Rattle.protocol.specs.laws.CallLists.{Known, claimed, in-range, known, takes-it, x-few}

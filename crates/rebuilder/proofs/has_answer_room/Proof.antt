@@ -4,63 +4,46 @@ use Rattle.rebuilder.specs.code.RebuilderParts.{answerRoom}
 use borrow.Author.Needs.{needs}
 use Rattle.rebuilder.proofs.has_answer_room.Statement.{statement}
 use Rattle.rebuilder.proofs.has_answer_room.Tie as tie
-use Rattle.rebuilder.proofs.has_answer_room.Reads as reads
-use Rattle.rebuilder.proofs.has_answer_room.Lts as lts
-use Rattle.rebuilder.proofs.has_room.Reads as has-room-reads
 
--- src/rebuilder.rt:374:30
 enum-known-read : tie.Need-enum-known-read
 enum-known-read c = search needs
 
--- src/rebuilder.rt:375:28
 enum-known-read-2 : tie.Need-enum-known-read-2
 enum-known-read-2 c = search needs
 
--- src/rebuilder.rt:375:34
 has-room-requires : tie.Need-has-room-requires
 has-room-requires c κs = search needs
 
--- src/rebuilder.rt:376:28
 enum-known-read-3 : tie.Need-enum-known-read-3
 enum-known-read-3 c = search needs
 
--- src/rebuilder.rt:376:34
 has-room-requires-2 : tie.Need-has-room-requires-2
 has-room-requires-2 c κs = search needs
 
--- src/rebuilder.rt:377:32
 enum-known-read-4 : tie.Need-enum-known-read-4
 enum-known-read-4 c = search needs
 
--- src/rebuilder.rt:377:41
 has-room-requires-3 : tie.Need-has-room-requires-3
 has-room-requires-3 c κs = search needs
 
--- src/rebuilder.rt:378:28
 enum-known-read-5 : tie.Need-enum-known-read-5
 enum-known-read-5 c = search needs
 
--- src/rebuilder.rt:378:35
 has-room-requires-4 : tie.Need-has-room-requires-4
 has-room-requires-4 c κs = search needs
 
--- src/rebuilder.rt:369:1
 returns : tie.Need-returns
 returns c = sym (ap (answerRoom (c .before .before .before .args .st) (rooms (c .before .before .before .args .string) (c .before .before .before .args .rows) (c .before .before .before .args .question))) (c .before .read .given .1))
 
--- src/rebuilder.rt:369:1
 returns-2 : tie.Need-returns-2
 returns-2 c = c .has-room .ensures ∙ sym (ap (answerRoom (c .before .before .before .before .args .st) (rooms (c .before .before .before .before .args .string) (c .before .before .before .before .args .rows) (c .before .before .before .before .args .question))) (c .before .before .read2 .given .1))
 
--- src/rebuilder.rt:369:1
 returns-3 : tie.Need-returns-3
 returns-3 c = c .has-room2 .ensures ∙ sym (ap (answerRoom (c .before .before .before .before .args .st) (rooms (c .before .before .before .before .args .string) (c .before .before .before .before .args .rows) (c .before .before .before .before .args .question))) (c .before .before .read3 .given .1))
 
--- src/rebuilder.rt:369:1
 returns-4 : tie.Need-returns-4
 returns-4 c = c .has-room3 .ensures ∙ sym (ap (answerRoom (c .before .before .before .before .args .st) (rooms (c .before .before .before .before .args .string) (c .before .before .before .before .args .rows) (c .before .before .before .before .args .question))) (c .before .before .read4 .given .1))
 
--- src/rebuilder.rt:369:1
 returns-5 : tie.Need-returns-5
 returns-5 c = c .has-room4 .ensures ∙ sym (ap (answerRoom (c .before .before .before .before .args .st) (rooms (c .before .before .before .before .args .string) (c .before .before .before .before .args .rows) (c .before .before .before .before .args .question))) (c .before .before .read5 .given .1))
 

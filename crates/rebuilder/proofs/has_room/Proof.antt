@@ -7,35 +7,25 @@ use native.Mathlib.Nat.{div-le-self}
 use borrow.Author.Needs.{needs}
 use Rattle.rebuilder.proofs.has_room.Statement.{statement}
 use Rattle.rebuilder.proofs.has_room.Tie as tie
-use Rattle.rebuilder.proofs.has_room.Reads as reads
-use Rattle.rebuilder.proofs.has_room.Lts as lts
-use Rattle.protocol.proofs.both.Reads as both-reads
 
--- src/rebuilder.rt:364:21
 div-most : tie.Need-div-most
 div-most c = search needs
 
--- src/rebuilder.rt:364:16
 mul-most : tie.Need-mul-most
 mul-most c = let e = div-le-self (c .args .n) (c .args .m) in let f = c .fits .n in omega arith
 
--- src/rebuilder.rt:364:16
 add-most : tie.Need-add-most
 add-most c = let e = div-le-self (c .args .n) (c .args .m) in let f = c .fits .n in omega arith
 
--- src/rebuilder.rt:365:11
 add-both : tie.Need-add-both
 add-both c = search needs
 
--- src/rebuilder.rt:365:42
 both-requires : tie.Need-both-requires
 both-requires c κs = search needs
 
--- src/rebuilder.rt:365:5
 both-requires-2 : tie.Need-both-requires-2
 both-requires-2 c κs = search needs
 
--- src/rebuilder.rt:360:1
 returns : tie.Need-returns
 returns c = c .both2 .ensures ∙ ap (λ (z : Bool). leb (bytesFor (c .before .before .args .n)) (c .before .before .args .string) && z) (c .before .both .ensures)
 

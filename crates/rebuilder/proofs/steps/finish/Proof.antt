@@ -3,65 +3,46 @@ use Rattle.rebuilder.specs.laws.RebuilderCodeLaws.{finished-out, short-o
 use borrow.Author.Needs.{needs}
 use Rattle.rebuilder.proofs.steps.finish.Statement.{statement}
 use Rattle.rebuilder.proofs.steps.finish.Tie as tie
-use Rattle.rebuilder.proofs.steps.finish.Reads as reads
-use Rattle.rebuilder.proofs.steps.finish.Lts as lts
-use Rattle.rebuilder.proofs.steps.give.Reads as give-reads
-use Rattle.states.proofs.plan_next.Reads as plan-next-reads
-use Rattle.messages.proofs.write_question.Reads as write-question-reads
 
--- src/rebuilder.rt:106:11
 plan-next-requires : tie.Need-plan-next-requires
 plan-next-requires c κs = sound-plans (c .before .args .s) ((c .before .pre) .0)
 
--- src/rebuilder.rt:107:32
 enum-told : tie.Need-enum-told
 enum-told c = search needs
 
--- src/rebuilder.rt:107:27
 give-requires : tie.Need-give-requires
 give-requires c κs = search needs
 
--- src/rebuilder.rt:108:19
 enum-known-q : tie.Need-enum-known-q
 enum-known-q c = search needs
 
--- src/rebuilder.rt:108:31
 write-question-requires : tie.Need-write-question-requires
 write-question-requires c κs = search needs
 
--- src/rebuilder.rt:109:43
 enum-told-2 : tie.Need-enum-told-2
 enum-told-2 c = search needs
 
--- src/rebuilder.rt:109:38
 give-requires-2 : tie.Need-give-requires-2
 give-requires-2 c κs = search needs
 
--- src/rebuilder.rt:110:34
 enum-known-size : tie.Need-enum-known-size
 enum-known-size c = search needs
 
--- src/rebuilder.rt:110:43
 give-requires-3 : tie.Need-give-requires-3
 give-requires-3 c κs = search needs
 
--- src/rebuilder.rt:102:1
 returns : tie.Need-returns
 returns c = finished-out (c .before .before .before .before .before .args .s) (c .before .before .before .before .before .args .change) _ ((c .before .before .before .before .before .pre) .0) ((c .before .before .before .before .before .pre) .1) (c .before .before .before .plan-next .ensures) (c .before .enum-told .given .1) _ (c .give .ensures)
 
--- src/rebuilder.rt:102:1
 same-length : tie.Need-same-length
 same-length c = search needs
 
--- src/rebuilder.rt:102:1
 returns-2 : tie.Need-returns-2
 returns-2 c = absurd (short-out (c .before .before .before .before .before .before .before .before .before .before .before .before .args .s) (c .before .before .before .before .before .before .before .before .before .before .before .before .args .change) _ ((c .before .before .before .before .before .before .before .before .before .before .before .before .pre) .0) ((c .before .before .before .before .before .before .before .before .before .before .before .before .pre) .1) (c .before .before .before .before .before .before .before .before .before .before .plan-next .ensures) (c .before .before .before .before .before .before .before .before .q .given .1) (c .before .before .before .before .before .write-question .ensures) (c .before .enum-told2 .given .1))
 
--- src/rebuilder.rt:102:1
 same-length-2 : tie.Need-same-length-2
 same-length-2 c = search needs
 
--- src/rebuilder.rt:102:1
 returns-3 : tie.Need-returns-3
 returns-3 c = asked-out (c .before .before .before .before .before .before .before .before .before .before .before .before .before .args .s) (c .before .before .before .before .before .before .before .before .before .before .before .before .before .args .change) _ ((c .before .before .before .before .before .before .before .before .before .before .before .before .before .pre) .0) ((c .before .before .before .before .before .before .before .before .before .before .before .before .before .pre) .1) (c .before .before .before .before .before .before .before .before .before .before .before .plan-next .ensures) (c .before .before .before .before .before .before .before .before .before .q .given .1) (c .before .before .before .before .before .before .write-question .ensures) (c .before .before .size .given .1) _ (c .give3 .ensures)
 

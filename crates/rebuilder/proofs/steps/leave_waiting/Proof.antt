@@ -2,29 +2,19 @@ use Rattle.rebuilder.specs.laws.RebuilderCodeLaws.{retries, retried-coun
 use borrow.Author.Needs.{needs}
 use Rattle.rebuilder.proofs.steps.leave_waiting.Statement.{statement}
 use Rattle.rebuilder.proofs.steps.leave_waiting.Tie as tie
-use Rattle.rebuilder.proofs.steps.leave_waiting.Reads as reads
-use Rattle.rebuilder.proofs.steps.leave_waiting.Lts as lts
-use Rattle.rebuilder.proofs.steps.finish.Reads as finish-reads
-use Rattle.states.proofs.retry.Reads as retry-reads
-use Rattle.states.proofs.tally.Reads as tally-reads
 
--- src/rebuilder.rt:139:9
 retry-requires : tie.Need-retry-requires
 retry-requires c κs = retries (c .before .args .st) _ _ ((c .before .pre) .0) ((c .before .pre) .1)
 
--- src/rebuilder.rt:140:9
 tally-requires : tie.Need-tally-requires
 tally-requires c κs = rw (c .retry .ensures) (retried-counts (c .before .before .args .st) _ _ ((c .before .before .pre) .0))
 
--- src/rebuilder.rt:141:5
 finish-requires : tie.Need-finish-requires
 finish-requires c κs = (rw (c .before .tally .ensures, c .before .before .retry .ensures) (retried-sound (c .before .before .before .before .args .st) _ _ ((c .before .before .before .before .pre) .0) ((c .before .before .before .before .pre) .1)), (c .before .before .before .before .pre) .0 .enough)
 
--- src/rebuilder.rt:134:1
 same-length : tie.Need-same-length
 same-length c = search needs
 
--- src/rebuilder.rt:134:1
 returns : tie.Need-returns
 returns c = retried-out (c .before .before .before .before .before .before .before .args .st) (c .before .before .before .before .before .before .before .args .size) (c .before .before .before .before .before .retry .ensures) (c .before .before .before .before .tally .ensures) (c .before .before .finish .ensures)
 

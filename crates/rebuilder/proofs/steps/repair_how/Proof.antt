@@ -3,19 +3,14 @@ use borrow.Author.Tests.{eq-eqb, ne-eqb}
 use borrow.Author.Needs.{needs}
 use Rattle.rebuilder.proofs.steps.repair_how.Statement.{statement}
 use Rattle.rebuilder.proofs.steps.repair_how.Tie as tie
-use Rattle.rebuilder.proofs.steps.repair_how.Reads as reads
-use Rattle.rebuilder.proofs.steps.repair_how.Lts as lts
 
--- src/rebuilder.rt:205:8
 add-if1 : tie.Need-add-if1
 add-if1 c = search needs
 
--- src/rebuilder.rt:206:9
 returns : tie.Need-returns
 unfolding repairHow
 returns c = rw (eq-eqb _ _ (c .if1 .taken))
 
--- src/rebuilder.rt:201:1
 returns-2 : tie.Need-returns-2
 unfolding repairHow
 returns-2 c = rw (ne-eqb _ _ (c .if1 .left))

@@ -2,44 +2,28 @@ use Rattle.rebuilder.specs.laws.RebuilderCodeLaws.{holds, popped-stages,
 use borrow.Author.Needs.{needs}
 use Rattle.rebuilder.proofs.steps.settle.Statement.{statement}
 use Rattle.rebuilder.proofs.steps.settle.Tie as tie
-use Rattle.rebuilder.proofs.steps.settle.Reads as reads
-use Rattle.rebuilder.proofs.steps.settle.Lts as lts
-use Rattle.rebuilder.proofs.steps.finish.Reads as finish-reads
-use Rattle.rebuilder.proofs.steps.how_number.Reads as how-number-reads
-use Rattle.states.proofs.pop.Reads as pop-reads
-use Rattle.states.proofs.restage.Reads as restage-reads
-use Rattle.states.proofs.tally.Reads as tally-reads
-use Rattle.states.proofs.top.Reads as top-reads
 
--- src/rebuilder.rt:120:9
 top-requires : tie.Need-top-requires
 top-requires c κs = holds (c .before .args .st) _ _ (c .before .pre)
 
--- src/rebuilder.rt:121:9
 pop-requires : tie.Need-pop-requires
 pop-requires c κs = holds (c .before .before .args .st) _ _ (c .before .before .pre)
 
--- src/rebuilder.rt:122:9
 restage-requires : tie.Need-restage-requires
 restage-requires c κs = rw (c .pop .ensures) (popped-stages (c .before .before .before .args .st) _ _ (c .before .before .before .pre))
 
--- src/rebuilder.rt:123:9
 tally-requires : tie.Need-tally-requires
 tally-requires c κs = rw (c .restage .ensures, c .before .pop .ensures) (settled-counts (c .before .before .before .before .args .st) _ _ (c .before .before .before .before .pre))
 
--- src/rebuilder.rt:124:9
 how-number-requires : tie.Need-how-number-requires
 how-number-requires c κs = search needs
 
--- src/rebuilder.rt:130:5
 finish-requires : tie.Need-finish-requires
 finish-requires c κs = (rw (c .before .before .tally .ensures, c .before .before .before .restage .ensures, c .before .before .before .before .pop .ensures) (settled-sound (c .before .before .before .before .before .before .before .args .st) _ _ (c .before .before .before .before .before .before .before .pre)), (c .before .before .before .before .before .before .before .pre) .enough)
 
--- src/rebuilder.rt:116:1
 same-length : tie.Need-same-length
 same-length c = search needs
 
--- src/rebuilder.rt:116:1
 returns : tie.Need-returns
 returns c = settled-out (c .before .before .before .before .before .before .before .before .before .before .args .st) (c .before .before .before .before .before .before .before .before .before .before .args .size) (c .before .before .before .before .before .before .before .before .before .before .args .how) (c .before .before .before .before .before .before .before .before .top .ensures) (c .before .before .before .before .before .before .before .pop .ensures) (c .before .before .before .before .before .before .restage .ensures) (c .before .before .before .before .before .tally .ensures) (c .before .before .before .before .how-number .ensures) (c .before .before .finish .ensures)
 

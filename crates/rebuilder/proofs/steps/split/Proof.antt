@@ -2,38 +2,25 @@ use Rattle.rebuilder.specs.laws.RebuilderCodeLaws.{holds, splitting, spl
 use borrow.Author.Needs.{needs}
 use Rattle.rebuilder.proofs.steps.split.Statement.{statement}
 use Rattle.rebuilder.proofs.steps.split.Tie as tie
-use Rattle.rebuilder.proofs.steps.split.Reads as reads
-use Rattle.rebuilder.proofs.steps.split.Lts as lts
-use Rattle.rebuilder.proofs.steps.finish.Reads as finish-reads
-use Rattle.states.proofs.split_at.Reads as split-at-reads
-use Rattle.states.proofs.tally.Reads as tally-reads
-use Rattle.states.proofs.top.Reads as top-reads
 
--- src/rebuilder.rt:150:9
 top-requires : tie.Need-top-requires
 top-requires c κs = holds (c .before .args .st) _ _ ((c .before .pre) .0)
 
--- src/rebuilder.rt:151:9
 split-at-requires : tie.Need-split-at-requires
 split-at-requires c κs = splitting (c .before .before .args .st) _ _ ((c .before .before .pre) .0) (c .before .before .args .s) (c .before .before .args .r) ((c .before .before .pre) .1)
 
--- src/rebuilder.rt:152:9
 tally-requires : tie.Need-tally-requires
 tally-requires c κs = rw (c .split-at .ensures) (split-counts (c .before .before .before .args .st) _ _ ((c .before .before .before .pre) .0) (c .before .before .before .args .s) (c .before .before .before .args .r) ((c .before .before .before .pre) .1))
 
--- src/rebuilder.rt:154:16
 add-t10 : tie.Need-add-t10
 add-t10 c = rw (c .before .before .before .top .ensures) (record { fits = split-start (c .before .before .before .before .before .args .st) _ _ ((c .before .before .before .before .before .pre) .0) (c .before .before .before .before .before .args .s) (c .before .before .before .before .before .args .r) ((c .before .before .before .before .before .pre) .1) })
 
--- src/rebuilder.rt:158:5
 finish-requires : tie.Need-finish-requires
 finish-requires c κs = (rw (c .before .before .tally .ensures, c .before .before .before .split-at .ensures) (split-sound (c .before .before .before .before .before .before .args .st) _ _ ((c .before .before .before .before .before .before .pre) .0) (c .before .before .before .before .before .before .args .s) (c .before .before .before .before .before .before .args .r) ((c .before .before .before .before .before .before .pre) .1)), (c .before .before .before .before .before .before .pre) .0 .enough)
 
--- src/rebuilder.rt:145:1
 same-length : tie.Need-same-length
 same-length c = search needs
 
--- src/rebuilder.rt:145:1
 returns : tie.Need-returns
 returns c = split-out (c .before .before .before .before .before .before .before .before .before .args .st) (c .before .before .before .before .before .before .before .before .before .args .size) (c .before .before .before .before .before .before .before .before .before .args .s) (c .before .before .before .before .before .before .before .before .before .args .r) (c .before .before .before .before .before .before .before .top .ensures) (c .before .before .before .before .before .before .split-at .ensures) (c .before .before .before .before .before .tally .ensures) (c .before .before .finish .ensures)
 

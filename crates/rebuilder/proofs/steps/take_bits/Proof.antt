@@ -3,58 +3,41 @@ use Rattle.rebuilder.specs.laws.RebuilderCallLaws.{bits-whole, bits-acti
 use borrow.Author.Needs.{needs}
 use Rattle.rebuilder.proofs.steps.take_bits.Statement.{statement}
 use Rattle.rebuilder.proofs.steps.take_bits.Tie as tie
-use Rattle.rebuilder.proofs.steps.take_bits.Reads as reads
-use Rattle.rebuilder.proofs.steps.take_bits.Lts as lts
-use Rattle.rebuilder.proofs.steps.take_anchor.Reads as take-anchor-reads
-use Rattle.rebuilder.proofs.steps.take_piece.Reads as take-piece-reads
-use Rattle.rebuilder.proofs.steps.take_whole.Reads as take-whole-reads
 
--- src/rebuilder.rt:327:9
 take-whole-requires : tie.Need-take-whole-requires
 take-whole-requires c κs = (bits-whole (c .before .before .before .before .before .before .before .before .args .st) _ _ ((c .before .before .before .before .before .before .before .before .pre) .0) (c .before .before .if1 .taken), ((c .before .before .before .before .before .before .before .before .pre) .1 .0 .text, (let h = (c .before .before .before .before .before .before .before .before .pre) .1 .1 in let e = due-whole (c .before .before .before .before .before .before .before .before .args .st) (c .before .before .if1 .taken) in omega arith)))
 
--- src/rebuilder.rt:327:9
 same-length : tie.Need-same-length
 same-length c = search needs
 
--- src/rebuilder.rt:327:9
 same-length-2 : tie.Need-same-length-2
 same-length-2 c = search needs
 
--- src/rebuilder.rt:327:9
 returns : tie.Need-returns
 returns c = due-said (c .before .before .before .before .before .before .before .before .before .before .before .before .before .args .st) _ _ _ _ _ (due-whole (c .before .before .before .before .before .before .before .before .before .before .before .before .before .args .st) (c .before .before .before .before .before .before .before .if1 .taken)) (c .before .before .before .before .take-whole .ensures _)
 
--- src/rebuilder.rt:330:9
 take-piece-requires : tie.Need-take-piece-requires
 take-piece-requires c κs = (bits-acting (c .before .before .before .before .before .before .before .before .before .before .args .st) _ _ ((c .before .before .before .before .before .before .before .before .before .before .pre) .0) (c .before .before .before .before .if1 .left) .0, (((c .before .before .before .before .before .before .before .before .before .before .pre) .1 .0 .text, c .before .before .if2 .taken), (let h = (c .before .before .before .before .before .before .before .before .before .before .pre) .1 .1 in let e = due-piece (c .before .before .before .before .before .before .before .before .before .before .args .st) (c .before .before .before .before .if1 .left) (c .before .before .if2 .taken) in omega arith)))
 
--- src/rebuilder.rt:330:9
 same-length-3 : tie.Need-same-length-3
 same-length-3 c = search needs
 
--- src/rebuilder.rt:330:9
 same-length-4 : tie.Need-same-length-4
 same-length-4 c = search needs
 
--- src/rebuilder.rt:330:9
 returns-2 : tie.Need-returns-2
 returns-2 c = due-said (c .before .before .before .before .before .before .before .before .before .before .before .before .before .before .before .args .st) _ _ _ _ _ (due-piece (c .before .before .before .before .before .before .before .before .before .before .before .before .before .before .before .args .st) (c .before .before .before .before .before .before .before .before .before .if1 .left) (c .before .before .before .before .before .before .before .if2 .taken)) (c .before .before .before .before .take-piece .ensures _)
 
--- src/rebuilder.rt:332:5
 take-anchor-requires : tie.Need-take-anchor-requires
 take-anchor-requires c κs = let a = bits-acting (c .before .before .before .before .before .before .before .before .before .before .args .st) _ _ ((c .before .before .before .before .before .before .before .before .before .before .pre) .0) (c .before .before .before .before .if1 .left) in
     (a .0, ((c .before .before .before .before .before .before .before .before .before .before .pre) .1 .0, ((a .1, (let f = c .before .before .if2 .left in omega arith)), (let h = (c .before .before .before .before .before .before .before .before .before .before .pre) .1 .1 in let f = c .before .before .if2 .left in let e = due-anchor (c .before .before .before .before .before .before .before .before .before .before .args .st) (c .before .before .before .before .if1 .left) (omega arith) in omega arith))))
 
--- src/rebuilder.rt:313:1
 same-length-5 : tie.Need-same-length-5
 same-length-5 c = search needs
 
--- src/rebuilder.rt:313:1
 same-length-6 : tie.Need-same-length-6
 same-length-6 c = search needs
 
--- src/rebuilder.rt:313:1
 returns-3 : tie.Need-returns-3
 returns-3 c = due-said (c .before .before .before .before .before .before .before .before .before .before .before .before .before .before .before .args .st) _ _ _ _ _ (due-anchor (c .before .before .before .before .before .before .before .before .before .before .before .before .before .before .before .args .st) (c .before .before .before .before .before .before .before .before .before .if1 .left) (let f = c .before .before .before .before .before .before .before .if2 .left in omega arith)) (c .before .before .before .before .take-anchor .ensures)
 

@@ -4,23 +4,16 @@ use Rattle.rebuilder.specs.laws.RebuilderCodeLaws.{step-hash, step-said}
 use borrow.Author.Needs.{needs}
 use Rattle.rebuilder.proofs.steps.take_hash.Statement.{statement}
 use Rattle.rebuilder.proofs.steps.take_hash.Tie as tie
-use Rattle.rebuilder.proofs.steps.take_hash.Reads as reads
-use Rattle.rebuilder.proofs.steps.take_hash.Lts as lts
-use Rattle.rebuilder.proofs.steps.try_edit.Reads as try-edit-reads
 
--- src/rebuilder.rt:197:5
 try-edit-requires : tie.Need-try-edit-requires
 try-edit-requires c κs = ((c .before .before .before .before .before .pre) .0, ((c .before .before .before .before .before .pre) .1 .0, ((let a = (c .before .before .before .before .before .pre) .1 .1 .0 in omega arith), sym ((c .before .before .before .before .before .pre) .1 .1 .1))))
 
--- src/rebuilder.rt:191:1
 same-length : tie.Need-same-length
 same-length c = search needs
 
--- src/rebuilder.rt:191:1
 same-length-2 : tie.Need-same-length-2
 same-length-2 c = search needs
 
--- src/rebuilder.rt:191:1
 returns : tie.Need-returns
 returns c = step-said (c .before .before .before .before .before .before .before .before .before .before .args .st) _ _ (step-hash (c .before .before .before .before .before .before .before .before .before .before .args .st) _ _ ((c .before .before .before .before .before .before .before .before .before .before .pre) .0 .phase) (c .before .before .before .before .before .before .before .before .before .before .args .v) ((c .before .before .before .before .before .before .before .before .before .before .pre) .1 .1 .0) ((c .before .before .before .before .before .before .before .before .before .before .pre) .1 .1 .1)) (c .before .before .before .before .try-edit .ensures)
 

@@ -2,37 +2,25 @@ use Rattle.rebuilder.specs.laws.RebuilderCallLaws.{opening-ready, openin
 use borrow.Author.Needs.{needs}
 use Rattle.rebuilder.proofs.steps.take_size.Statement.{statement}
 use Rattle.rebuilder.proofs.steps.take_size.Tie as tie
-use Rattle.rebuilder.proofs.steps.take_size.Reads as reads
-use Rattle.rebuilder.proofs.steps.take_size.Lts as lts
-use Rattle.rebuilder.proofs.steps.finish.Reads as finish-reads
-use Rattle.states.proofs.open_state.Reads as open-state-reads
-use Rattle.strings.proofs.clear_bytes.Reads as clear-bytes-reads
 
--- src/rebuilder.rt:307:9
 open-state-requires : tie.Need-open-state-requires
 open-state-requires c κs = opening-ready (c .before .before .args .st) (c .before .before .args .n) _ ((c .before .before .pre) .0)
 
--- src/rebuilder.rt:308:38
 add-clear-bytes : tie.Need-add-clear-bytes
 add-clear-bytes c = search needs
 
--- src/rebuilder.rt:308:5
 clear-bytes-requires : tie.Need-clear-bytes-requires
 clear-bytes-requires c κs = search needs
 
--- src/rebuilder.rt:309:5
 finish-requires : tie.Need-finish-requires
 finish-requires c κs = (rw (c .before .before .before .before .before .open-state .ensures) (opening-next (c .before .before .before .before .before .before .before .before .args .st) (c .before .before .before .before .before .before .before .before .args .n) _ ((c .before .before .before .before .before .before .before .before .pre) .0)), (c .before .before .before .before .before .before .before .before .pre) .0 .enough)
 
--- src/rebuilder.rt:302:1
 same-length : tie.Need-same-length
 same-length c = search needs
 
--- src/rebuilder.rt:302:1
 same-length-2 : tie.Need-same-length-2
 same-length-2 c = search needs
 
--- src/rebuilder.rt:302:1
 returns : tie.Need-returns
 returns c = λ y size. opening-said (c .before .before .before .before .before .before .before .before .before .before .before .args .st) (c .before .before .before .before .before .before .before .before .before .before .before .args .n) _ ((c .before .before .before .before .before .before .before .before .before .before .before .pre) .0) (c .before .before .before .before .before .before .before .before .open-state .ensures) y size _ (c .before .before .before .before .before .before .clear-bytes .ensures) (c .before .before .finish .ensures)
 

@@ -3,71 +3,49 @@ use Rattle.rebuilder.specs.laws.RebuilderCodeLaws.{holds, copy-part, cop
 use borrow.Author.Needs.{needs}
 use Rattle.rebuilder.proofs.steps.take_syndrome.Statement.{statement}
 use Rattle.rebuilder.proofs.steps.take_syndrome.Tie as tie
-use Rattle.rebuilder.proofs.steps.take_syndrome.Reads as reads
-use Rattle.rebuilder.proofs.steps.take_syndrome.Lts as lts
-use Rattle.codes.proofs.find_repair.Reads as find-repair-reads
-use Rattle.rebuilder.proofs.steps.leave_waiting.Reads as leave-waiting-reads
-use Rattle.rebuilder.proofs.steps.repair_how.Reads as repair-how-reads
-use Rattle.rebuilder.proofs.steps.try_edit.Reads as try-edit-reads
-use Rattle.states.proofs.top.Reads as top-reads
 
--- src/rebuilder.rt:226:9
 top-requires : tie.Need-top-requires
 top-requires c κs = holds (c .before .before .before .args .st) _ _ ((c .before .before .before .pre) .0)
 
--- src/rebuilder.rt:227:13
 cast-p : tie.Need-cast-p
 cast-p c = search needs
 
--- src/rebuilder.rt:228:17
 cast-start : tie.Need-cast-start
 cast-start c = search needs
 
--- src/rebuilder.rt:229:13
 cast-q : tie.Need-cast-q
 cast-q c = search needs
 
--- src/rebuilder.rt:230:9
 repair-how-requires : tie.Need-repair-how-requires
 repair-how-requires c κs = copy-short (c .before .before .before .before .before .before .before .args .st) _ _ ((c .before .before .before .before .before .before .before .pre) .0) (c .before .before .before .top .ensures)
 
--- src/rebuilder.rt:231:11
 find-repair-requires : tie.Need-find-repair-requires
 find-repair-requires c κs = copy-part (c .before .before .before .before .before .before .before .before .args .st) _ _ ((c .before .before .before .before .before .before .before .before .pre) .0) (c .before .before .before .before .top .ensures) _ ((c .before .before .before .before .before .before .before .before .pre) .1 .0 .copy)
 
--- src/rebuilder.rt:232:52
 enum-told : tie.Need-enum-told
 enum-told c = search needs
 
--- src/rebuilder.rt:232:28
 leave-waiting-requires : tie.Need-leave-waiting-requires
 leave-waiting-requires c κs = search needs
 
--- src/rebuilder.rt:233:23
 enum-known-e : tie.Need-enum-known-e
 enum-known-e c = search needs
 
--- src/rebuilder.rt:233:29
 try-edit-requires : tie.Need-try-edit-requires
 try-edit-requires c κs = ((c .before .before .before .before .before .before .before .before .before .before .before .before .before .before .pre) .0, ((c .before .before .before .before .before .before .before .before .before .before .before .before .before .before .pre) .1 .0, ((let a = (c .before .before .before .before .before .before .before .before .before .before .before .before .before .before .pre) .1 .1 .0 in omega arith), found-fits (c .before .before .before .before .before .before .before .before .before .before .before .before .before .before .args .st) _ (c .before .before .before .before .before .before .before .before .before .before .before .before .before .before .args .size) (c .before .before .before .before .before .before .before .before .before .before .before .before .before .before .args .a) (c .before .before .before .before .before .before .before .before .before .before .before .before .before .before .args .v) ((c .before .before .before .before .before .before .before .before .before .before .before .before .before .before .pre) .0 .phase) ((c .before .before .before .before .before .before .before .before .before .before .before .before .before .before .pre) .1 .1 .0) ((c .before .before .before .before .before .before .before .before .before .before .before .before .before .before .pre) .1 .1 .1) (c .before .before .before .before .before .before .before .before .before .before .top .ensures) (c .before .before .before .before .before .find-repair .ensures) (c .before .before .before .e .given .1))))
 
--- src/rebuilder.rt:212:1
 same-length : tie.Need-same-length
 same-length c = search needs
 
--- src/rebuilder.rt:212:1
 returns : tie.Need-returns
 returns c = step-said (c .before .before .before .before .before .before .before .before .before .before .before .before .before .before .before .args .st) _ _ (nothing-step (c .before .before .before .before .before .before .before .before .before .before .before .before .before .before .before .args .st) _ (c .before .before .before .before .before .before .before .before .before .before .before .before .before .before .before .args .size) (c .before .before .before .before .before .before .before .before .before .before .before .before .before .before .before .args .a) (c .before .before .before .before .before .before .before .before .before .before .before .before .before .before .before .args .v) ((c .before .before .before .before .before .before .before .before .before .before .before .before .before .before .before .pre) .0 .phase) ((c .before .before .before .before .before .before .before .before .before .before .before .before .before .before .before .pre) .1 .1 .0) ((c .before .before .before .before .before .before .before .before .before .before .before .before .before .before .before .pre) .1 .1 .1) (c .before .before .before .before .before .before .before .before .before .before .before .top .ensures) (c .before .before .before .before .before .before .find-repair .ensures) (c .before .before .before .before .enum-told .given .1)) (waiting-said (c .before .before .before .before .before .before .before .before .before .before .before .before .before .before .before .args .st) _ _ _ (c .before .before .leave-waiting .ensures))
 
--- src/rebuilder.rt:212:1
 same-length-2 : tie.Need-same-length-2
 same-length-2 c = search needs
 
--- src/rebuilder.rt:212:1
 same-length-3 : tie.Need-same-length-3
 same-length-3 c = search needs
 
--- src/rebuilder.rt:212:1
 returns-2 : tie.Need-returns-2
 returns-2 c = step-said (c .before .before .before .before .before .before .before .before .before .before .before .before .before .before .before .before .before .before .before .args .st) _ _ (found-step (c .before .before .before .before .before .before .before .before .before .before .before .before .before .before .before .before .before .before .before .args .st) _ (c .before .before .before .before .before .before .before .before .before .before .before .before .before .before .before .before .before .before .before .args .size) (c .before .before .before .before .before .before .before .before .before .before .before .before .before .before .before .before .before .before .before .args .a) (c .before .before .before .before .before .before .before .before .before .before .before .before .before .before .before .before .before .before .before .args .v) ((c .before .before .before .before .before .before .before .before .before .before .before .before .before .before .before .before .before .before .before .pre) .0 .phase) ((c .before .before .before .before .before .before .before .before .before .before .before .before .before .before .before .before .before .before .before .pre) .1 .1 .0) ((c .before .before .before .before .before .before .before .before .before .before .before .before .before .before .before .before .before .before .before .pre) .1 .1 .1) (c .before .before .before .before .before .before .before .before .before .before .before .before .before .before .before .top .ensures) (c .before .before .before .before .before .before .before .before .before .before .find-repair .ensures) (c .before .before .before .before .before .before .before .before .before .before .before .repair-how .ensures) (c .before .before .before .before .before .before .before .before .e .given .1)) (c .before .before .before .before .try-edit .ensures)
 

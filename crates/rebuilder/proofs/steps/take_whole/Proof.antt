@@ -2,37 +2,25 @@ use Rattle.rebuilder.specs.laws.RebuilderCallLaws.{whole-counts, whole-t
 use borrow.Author.Needs.{needs}
 use Rattle.rebuilder.proofs.steps.take_whole.Statement.{statement}
 use Rattle.rebuilder.proofs.steps.take_whole.Tie as tie
-use Rattle.rebuilder.proofs.steps.take_whole.Reads as reads
-use Rattle.rebuilder.proofs.steps.take_whole.Lts as lts
-use Rattle.rebuilder.proofs.steps.finish.Reads as finish-reads
-use Rattle.states.proofs.whole_state.Reads as whole-state-reads
-use Rattle.strings.proofs.copy_bits.Reads as copy-bits-reads
 
--- src/rebuilder.rt:291:9
 whole-state-requires : tie.Need-whole-state-requires
 whole-state-requires c κs = whole-counts (c .before .before .before .args .st) _ _ ((c .before .before .before .pre) .0)
 
--- src/rebuilder.rt:292:33
 cast-copy-bits : tie.Need-cast-copy-bits
 cast-copy-bits c = search needs
 
--- src/rebuilder.rt:292:5
 copy-bits-requires : tie.Need-copy-bits-requires
 copy-bits-requires c κs = (whole-text (c .before .before .before .before .before .before .args .st) _ _ ((c .before .before .before .before .before .before .pre) .0) _ ((c .before .before .before .before .before .before .pre) .1 .1), whole-text (c .before .before .before .before .before .before .args .st) _ _ ((c .before .before .before .before .before .before .pre) .0) _ ((c .before .before .before .before .before .before .pre) .1 .0))
 
--- src/rebuilder.rt:298:5
 finish-requires : tie.Need-finish-requires
 finish-requires c κs = (rw (c .before .before .before .before .before .before .whole-state .ensures) (whole-next (c .before .before .before .before .before .before .before .before .before .before .args .st) _ _ ((c .before .before .before .before .before .before .before .before .before .before .pre) .0)), (c .before .before .before .before .before .before .before .before .before .before .pre) .0 .enough)
 
--- src/rebuilder.rt:286:1
 same-length : tie.Need-same-length
 same-length c = search needs
 
--- src/rebuilder.rt:286:1
 same-length-2 : tie.Need-same-length-2
 same-length-2 c = search needs
 
--- src/rebuilder.rt:286:1
 returns : tie.Need-returns
 returns c = λ y. whole-said (c .before .before .before .before .before .before .before .before .before .before .before .before .before .args .st) _ _ ((c .before .before .before .before .before .before .before .before .before .before .before .before .before .pre) .0) (c .before .before .before .before .before .before .before .before .before .whole-state .ensures) y _ _ (c .before .before .before .before .before .before .copy-bits .ensures) (c .before .before .finish .ensures)
 

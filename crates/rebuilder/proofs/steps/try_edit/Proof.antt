@@ -2,67 +2,46 @@ use Rattle.rebuilder.specs.laws.RebuilderCodeLaws.{holds, editable, narr
 use borrow.Author.Needs.{needs}
 use Rattle.rebuilder.proofs.steps.try_edit.Statement.{statement}
 use Rattle.rebuilder.proofs.steps.try_edit.Tie as tie
-use Rattle.rebuilder.proofs.steps.try_edit.Reads as reads
-use Rattle.rebuilder.proofs.steps.try_edit.Lts as lts
-use Rattle.codes.proofs.copy_edited.Reads as copy-edited-reads
-use Rattle.codes.proofs.hash_edited.Reads as hash-edited-reads
-use Rattle.rebuilder.proofs.steps.leave_waiting.Reads as leave-waiting-reads
-use Rattle.rebuilder.proofs.steps.settle.Reads as settle-reads
-use Rattle.states.proofs.top.Reads as top-reads
 
--- src/rebuilder.rt:177:9
 top-requires : tie.Need-top-requires
 top-requires c κs = holds (c .before .before .before .args .st) _ _ ((c .before .before .before .pre) .0)
 
--- src/rebuilder.rt:178:13
 cast-x : tie.Need-cast-x
 cast-x c = search needs
 
--- src/rebuilder.rt:179:13
 cast-p : tie.Need-cast-p
 cast-p c = search needs
 
--- src/rebuilder.rt:180:17
 cast-start : tie.Need-cast-start
 cast-start c = search needs
 
--- src/rebuilder.rt:181:13
 cast-q : tie.Need-cast-q
 cast-q c = search needs
 
--- src/rebuilder.rt:182:9
 hash-edited-requires : tie.Need-hash-edited-requires
 hash-edited-requires c κs = (editable (c .before .before .before .before .before .before .before .before .args .st) _ _ ((c .before .before .before .before .before .before .before .before .pre) .0) (c .before .before .before .before .top .ensures) _ (c .before .before .before .before .before .before .before .before .args .e) ((c .before .before .before .before .before .before .before .before .pre) .1 .0 .copy) ((c .before .before .before .before .before .before .before .before .pre) .1 .1 .1), narrow (c .before .before .before .before .before .before .before .before .args .st) _ _ ((c .before .before .before .before .before .before .before .before .pre) .0) (c .before .before .before .before .top .ensures))
 
--- src/rebuilder.rt:184:9
 leave-waiting-requires : tie.Need-leave-waiting-requires
 leave-waiting-requires c κs = search needs
 
--- src/rebuilder.rt:184:9
 same-length : tie.Need-same-length
 same-length c = search needs
 
--- src/rebuilder.rt:184:9
 returns : tie.Need-returns
 returns c = try-no (c .before .before .before .before .before .before .before .before .before .before .before .before .before .before .args .st) _ _ (c .before .before .before .before .before .before .before .before .before .before .before .before .before .before .args .v) (c .before .before .before .before .before .before .before .before .before .before .before .before .before .before .args .how) (c .before .before .before .before .before .before .before .before .before .before .before .before .before .before .args .e) (c .before .before .before .before .before .before .before .before .before .before .top .ensures) (c .before .before .before .before .before .hash-edited .ensures) (c .before .before .before .before .if1 .taken) _ (c .before .before .leave-waiting .ensures)
 
--- src/rebuilder.rt:186:5
 copy-edited-requires : tie.Need-copy-edited-requires
 copy-edited-requires c κs = (editable (c .before .before .before .before .before .before .before .before .before .before .before .args .st) _ _ ((c .before .before .before .before .before .before .before .before .before .before .before .pre) .0) (c .before .before .before .before .before .before .before .top .ensures) _ (c .before .before .before .before .before .before .before .before .before .before .before .args .e) ((c .before .before .before .before .before .before .before .before .before .before .before .pre) .1 .0 .copy) ((c .before .before .before .before .before .before .before .before .before .before .before .pre) .1 .1 .1), text-part (c .before .before .before .before .before .before .before .before .before .before .before .args .st) _ _ ((c .before .before .before .before .before .before .before .before .before .before .before .pre) .0) (c .before .before .before .before .before .before .before .top .ensures) _ ((c .before .before .before .before .before .before .before .before .before .before .before .pre) .1 .0 .text))
 
--- src/rebuilder.rt:187:5
 settle-requires : tie.Need-settle-requires
 settle-requires c κs = search needs
 
--- src/rebuilder.rt:162:1
 same-length-2 : tie.Need-same-length-2
 same-length-2 c = search needs
 
--- src/rebuilder.rt:162:1
 same-length-3 : tie.Need-same-length-3
 same-length-3 c = search needs
 
--- src/rebuilder.rt:162:1
 returns-2 : tie.Need-returns-2
 returns-2 c = try-yes (c .before .before .before .before .before .before .before .before .before .before .before .before .before .before .before .before .before .before .args .st) _ _ (c .before .before .before .before .before .before .before .before .before .before .before .before .before .before .before .before .before .before .args .v) (c .before .before .before .before .before .before .before .before .before .before .before .before .before .before .before .before .before .before .args .how) (c .before .before .before .before .before .before .before .before .before .before .before .before .before .before .before .before .before .before .args .e) (c .before .before .before .before .before .before .before .before .before .before .before .before .before .before .top .ensures) (c .before .before .before .before .before .before .before .before .before .hash-edited .ensures) (c .before .before .before .before .before .before .before .before .if1 .left) _ (c .before .before .before .before .before .before .copy-edited .ensures) (c .before .before .settle .ensures)
 
