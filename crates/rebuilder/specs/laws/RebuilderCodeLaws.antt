@@ -435,9 +435,9 @@ place-within m k p s ys b r e =
     let h : Best (anchorFits m k p s ys b) (away p (length ys) s) 0 (length ys + 1 - m) (some r) = rw e at (place-best m k p s ys b) in
     let u = h .1 in omega arith
 
-module _ (st : Rebuilder) (size room : ℕ) (k : Acting st size room) (low : 0 < st .stage) (early : st .stage < 4) {t : Piece} (tp : t ≡ top st) where
+module _ {st : Rebuilder} {size room : ℕ} (k : Acting st size room) (anchoring : (0 < st .stage) × (st .stage < 4)) {t : Piece} (tp : t ≡ top st) where
   long : 4 * st .settings .m ≤ top st .p
-  long = stage-big (st .settings) (top st .p) (top st .q) (st .stage) (topped st size room k .stage) low early
+  long = stage-big (st .settings) (top st .p) (top st .q) (st .stage) (topped st size room k .stage) (anchoring .0) (anchoring .1)
 
   pub offsets : Offsets (st .settings .m) (t .p)
   offsets =
@@ -481,18 +481,18 @@ module _ (st : Rebuilder) (size room : ℕ) (k : Acting st size room) (low : 0 <
       place-splits {r} f =
           let w = place-within (st .settings .m) (st .settings .k) (top st .p) (anchorOffset (st .settings .m) (top st .p) (st .stage)) (range y (top st .y) (top st .q)) b r (found-place f) in
           let e = range-length y (top st .y) (top st .q) in
-          record { later = low; early = early; offset = offset-is; placed = omega arith }
+          record { later = anchoring .0; early = anchoring .1; offset = offset-is; placed = omega arith }
 
       pub place-small : {r : ℕ} → p ≡ At r → r < 4294967296
       place-small f = let g = place-splits f in let a = g .placed in let b = topped st size room k .inY in let c = framed st size room k .copy in omega arith
 
       pub anchor-placed : {r : ℕ} → p ≡ At r → stepOf st y size (bitsAnswer b) ≡ effectStep st size (splits s r b)
       anchor-placed {r} f =
-          let a = step-anchor st y size (k .phase) b low early in
+          let a = step-anchor st y size (k .phase) b (anchoring .0) (anchoring .1) in
           a .1 ∙ ap (λ (o : Option ℕ). effectStep st size (placedOr (anchorOffset (st .settings .m) (top st .p) (st .stage)) b (a .0) o)) (found-place f)
           ∙ ap (λ (i : ℕ). effectStep st size (splits i r b)) (sym offset-is)
 
       pub anchor-unplaced : p ≡ Nowhere → (u : Stage) × (stepOf st y size (bitsAnswer b) ≡ effectStep st size (stays u))
       anchor-unplaced f =
-          let a = step-anchor st y size (k .phase) b low early in
+          let a = step-anchor st y size (k .phase) b (anchoring .0) (anchoring .1) in
           (a .0, a .1 ∙ ap (λ (o : Option ℕ). effectStep st size (placedOr (anchorOffset (st .settings .m) (top st .p) (st .stage)) b (a .0) o)) (no-place f))

@@ -32,19 +32,31 @@ give-requires-3 : tie.Need-give-requires-3
 give-requires-3 c κs = search needs
 
 returns : tie.Need-returns
-returns c = finished-out (c .before .before .before .before .before .args .s) (c .before .before .before .before .before .args .change) _ ((c .before .before .before .before .before .pre) .0) ((c .before .before .before .before .before .pre) .1) (c .before .before .before .plan-next .ensures) (c .before .enum-told .given .1) _ (c .give .ensures)
+returns c =
+    let s = c .before .before .before .before .before in
+    finished-out (s .args .s) (s .args .change) _ (s .pre .0) (s .pre .1) (c .before .before .before .plan-next .ensures) (c .before .enum-told .given .1) _ (c .give .ensures)
 
 same-length : tie.Need-same-length
 same-length c = search needs
 
 returns-2 : tie.Need-returns-2
-returns-2 c = absurd (short-out (c .before .before .before .before .before .before .before .before .before .before .before .before .args .s) (c .before .before .before .before .before .before .before .before .before .before .before .before .args .change) _ ((c .before .before .before .before .before .before .before .before .before .before .before .before .pre) .0) ((c .before .before .before .before .before .before .before .before .before .before .before .before .pre) .1) (c .before .before .before .before .before .before .before .before .before .before .plan-next .ensures) (c .before .before .before .before .before .before .before .before .q .given .1) (c .before .before .before .before .before .write-question .ensures) (c .before .enum-told2 .given .1))
+returns-2 c =
+    let at-write-question = c .before .before .before .before .before in
+    let at-q = at-write-question .before .before .before in
+    let at-plan-next = at-q .before .before in
+    let s = at-plan-next .before .before in
+    absurd (short-out (s .args .s) (s .args .change) _ (s .pre .0) (s .pre .1) (at-plan-next .plan-next .ensures) (at-q .q .given .1) (at-write-question .write-question .ensures) (c .before .enum-told2 .given .1))
 
 same-length-2 : tie.Need-same-length-2
 same-length-2 c = search needs
 
 returns-3 : tie.Need-returns-3
-returns-3 c = asked-out (c .before .before .before .before .before .before .before .before .before .before .before .before .before .args .s) (c .before .before .before .before .before .before .before .before .before .before .before .before .before .args .change) _ ((c .before .before .before .before .before .before .before .before .before .before .before .before .before .pre) .0) ((c .before .before .before .before .before .before .before .before .before .before .before .before .before .pre) .1) (c .before .before .before .before .before .before .before .before .before .before .before .plan-next .ensures) (c .before .before .before .before .before .before .before .before .before .q .given .1) (c .before .before .before .before .before .before .write-question .ensures) (c .before .before .size .given .1) _ (c .give3 .ensures)
+returns-3 c =
+    let at-write-question = c .before .before .before .before .before .before in
+    let at-q = at-write-question .before .before .before in
+    let at-plan-next = at-q .before .before in
+    let s = at-plan-next .before .before in
+    asked-out (s .args .s) (s .args .change) _ (s .pre .0) (s .pre .1) (at-plan-next .plan-next .ensures) (at-q .q .given .1) (at-write-question .write-question .ensures) (c .before .before .size .given .1) _ (c .give3 .ensures)
 
 pub finish-spec : {M : Type 1} → statement M
 finish-spec =

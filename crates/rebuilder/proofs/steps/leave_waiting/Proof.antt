@@ -10,13 +10,17 @@ tally-requires : tie.Need-tally-requires
 tally-requires c κs = rw (c .retry .ensures) (retried-counts (c .before .before .args .st) _ _ ((c .before .before .pre) .0))
 
 finish-requires : tie.Need-finish-requires
-finish-requires c κs = (rw (c .before .tally .ensures, c .before .before .retry .ensures) (retried-sound (c .before .before .before .before .args .st) _ _ ((c .before .before .before .before .pre) .0) ((c .before .before .before .before .pre) .1)), (c .before .before .before .before .pre) .0 .enough)
+finish-requires c κs =
+    let s = c .before .before .before .before in
+    (rw (c .before .tally .ensures, c .before .before .retry .ensures) (retried-sound (s .args .st) _ _ (s .pre .0) (s .pre .1)), s .pre .0 .enough)
 
 same-length : tie.Need-same-length
 same-length c = search needs
 
 returns : tie.Need-returns
-returns c = retried-out (c .before .before .before .before .before .before .before .args .st) (c .before .before .before .before .before .before .before .args .size) (c .before .before .before .before .before .retry .ensures) (c .before .before .before .before .tally .ensures) (c .before .before .finish .ensures)
+returns c =
+    let s = c .before .before .before .before .before .before .before in
+    retried-out (s .args .st) (s .args .size) (c .before .before .before .before .before .retry .ensures) (c .before .before .before .before .tally .ensures) (c .before .before .finish .ensures)
 
 pub leave-waiting-spec : {M : Type 1} → statement M
 leave-waiting-spec =

@@ -19,13 +19,22 @@ how-number-requires : tie.Need-how-number-requires
 how-number-requires c κs = search needs
 
 finish-requires : tie.Need-finish-requires
-finish-requires c κs = (rw (c .before .before .tally .ensures, c .before .before .before .restage .ensures, c .before .before .before .before .pop .ensures) (settled-sound (c .before .before .before .before .before .before .before .args .st) _ _ (c .before .before .before .before .before .before .before .pre)), (c .before .before .before .before .before .before .before .pre) .enough)
+finish-requires c κs =
+    let s = c .before .before .before .before .before .before .before in
+    (rw (c .before .before .tally .ensures, c .before .before .before .restage .ensures, c .before .before .before .before .pop .ensures) (settled-sound (s .args .st) _ _ (s .pre)), s .pre .enough)
 
 same-length : tie.Need-same-length
 same-length c = search needs
 
 returns : tie.Need-returns
-returns c = settled-out (c .before .before .before .before .before .before .before .before .before .before .args .st) (c .before .before .before .before .before .before .before .before .before .before .args .size) (c .before .before .before .before .before .before .before .before .before .before .args .how) (c .before .before .before .before .before .before .before .before .top .ensures) (c .before .before .before .before .before .before .before .pop .ensures) (c .before .before .before .before .before .before .restage .ensures) (c .before .before .before .before .before .tally .ensures) (c .before .before .before .before .how-number .ensures) (c .before .before .finish .ensures)
+returns c =
+    let at-how-number = c .before .before .before .before in
+    let at-tally = at-how-number .before in
+    let at-restage = at-tally .before in
+    let at-pop = at-restage .before in
+    let at-top = at-pop .before in
+    let s = at-top .before .before in
+    settled-out (s .args .st) (s .args .size) (s .args .how) (at-top .top .ensures) (at-pop .pop .ensures) (at-restage .restage .ensures) (at-tally .tally .ensures) (at-how-number .how-number .ensures) (c .before .before .finish .ensures)
 
 pub settle-spec : {M : Type 1} → statement M
 settle-spec =

@@ -6,7 +6,9 @@ use Rattle.rebuilder.proofs.steps.take_hash.Statement.{statement}
 use Rattle.rebuilder.proofs.steps.take_hash.Tie as tie
 
 try-edit-requires : tie.Need-try-edit-requires
-try-edit-requires c κs = ((c .before .before .before .before .before .pre) .0, ((c .before .before .before .before .before .pre) .1 .0, ((let a = (c .before .before .before .before .before .pre) .1 .1 .0 in omega arith), sym ((c .before .before .before .before .before .pre) .1 .1 .1))))
+try-edit-requires c κs =
+    let s = c .before .before .before .before .before in
+    (s .pre .0, (s .pre .1 .0, ((let a = s .pre .1 .1 .0 in omega arith), sym (s .pre .1 .1 .1))))
 
 same-length : tie.Need-same-length
 same-length c = search needs
@@ -15,7 +17,9 @@ same-length-2 : tie.Need-same-length-2
 same-length-2 c = search needs
 
 returns : tie.Need-returns
-returns c = step-said (c .before .before .before .before .before .before .before .before .before .before .args .st) _ _ (step-hash (c .before .before .before .before .before .before .before .before .before .before .args .st) _ _ ((c .before .before .before .before .before .before .before .before .before .before .pre) .0 .phase) (c .before .before .before .before .before .before .before .before .before .before .args .v) ((c .before .before .before .before .before .before .before .before .before .before .pre) .1 .1 .0) ((c .before .before .before .before .before .before .before .before .before .before .pre) .1 .1 .1)) (c .before .before .before .before .try-edit .ensures)
+returns c =
+    let s = c .before .before .before .before .before .before .before .before .before .before in
+    step-said (s .args .st) _ _ (step-hash (s .args .st) _ _ (s .pre .0 .phase) (s .args .v) (s .pre .1 .1 .0) (s .pre .1 .1 .1)) (c .before .before .before .before .try-edit .ensures)
 
 pub take-hash-spec : {M : Type 1} → statement M
 take-hash-spec = tie.close (tie.spec try-edit-requires same-length same-length-2 returns)

@@ -13,7 +13,9 @@ clear-bytes-requires : tie.Need-clear-bytes-requires
 clear-bytes-requires c κs = search needs
 
 finish-requires : tie.Need-finish-requires
-finish-requires c κs = (rw (c .before .before .before .before .before .open-state .ensures) (opening-next (c .before .before .before .before .before .before .before .before .args .st) (c .before .before .before .before .before .before .before .before .args .n) _ ((c .before .before .before .before .before .before .before .before .pre) .0)), (c .before .before .before .before .before .before .before .before .pre) .0 .enough)
+finish-requires c κs =
+    let s = c .before .before .before .before .before .before .before .before in
+    (rw (c .before .before .before .before .before .open-state .ensures) (opening-next (s .args .st) (s .args .n) _ (s .pre .0)), s .pre .0 .enough)
 
 same-length : tie.Need-same-length
 same-length c = search needs
@@ -22,7 +24,11 @@ same-length-2 : tie.Need-same-length-2
 same-length-2 c = search needs
 
 returns : tie.Need-returns
-returns c = λ y size. opening-said (c .before .before .before .before .before .before .before .before .before .before .before .args .st) (c .before .before .before .before .before .before .before .before .before .before .before .args .n) _ ((c .before .before .before .before .before .before .before .before .before .before .before .pre) .0) (c .before .before .before .before .before .before .before .before .open-state .ensures) y size _ (c .before .before .before .before .before .before .clear-bytes .ensures) (c .before .before .finish .ensures)
+returns c =
+    let at-clear-bytes = c .before .before .before .before .before .before in
+    let at-open-state = at-clear-bytes .before .before in
+    let s = at-open-state .before .before .before in
+    λ y size. opening-said (s .args .st) (s .args .n) _ (s .pre .0) (at-open-state .open-state .ensures) y size _ (at-clear-bytes .clear-bytes .ensures) (c .before .before .finish .ensures)
 
 pub take-size-spec : {M : Type 1} → statement M
 take-size-spec =

@@ -20,7 +20,9 @@ repair-how-requires : tie.Need-repair-how-requires
 repair-how-requires c κs = copy-short (c .before .before .before .before .before .before .before .args .st) _ _ ((c .before .before .before .before .before .before .before .pre) .0) (c .before .before .before .top .ensures)
 
 find-repair-requires : tie.Need-find-repair-requires
-find-repair-requires c κs = copy-part (c .before .before .before .before .before .before .before .before .args .st) _ _ ((c .before .before .before .before .before .before .before .before .pre) .0) (c .before .before .before .before .top .ensures) _ ((c .before .before .before .before .before .before .before .before .pre) .1 .0 .copy)
+find-repair-requires c κs =
+    let s = c .before .before .before .before .before .before .before .before in
+    copy-part (s .args .st) _ _ (s .pre .0) (c .before .before .before .before .top .ensures) _ (s .pre .1 .0 .copy)
 
 enum-told : tie.Need-enum-told
 enum-told c = search needs
@@ -32,13 +34,22 @@ enum-known-e : tie.Need-enum-known-e
 enum-known-e c = search needs
 
 try-edit-requires : tie.Need-try-edit-requires
-try-edit-requires c κs = ((c .before .before .before .before .before .before .before .before .before .before .before .before .before .before .pre) .0, ((c .before .before .before .before .before .before .before .before .before .before .before .before .before .before .pre) .1 .0, ((let a = (c .before .before .before .before .before .before .before .before .before .before .before .before .before .before .pre) .1 .1 .0 in omega arith), found-fits (c .before .before .before .before .before .before .before .before .before .before .before .before .before .before .args .st) _ (c .before .before .before .before .before .before .before .before .before .before .before .before .before .before .args .size) (c .before .before .before .before .before .before .before .before .before .before .before .before .before .before .args .a) (c .before .before .before .before .before .before .before .before .before .before .before .before .before .before .args .v) ((c .before .before .before .before .before .before .before .before .before .before .before .before .before .before .pre) .0 .phase) ((c .before .before .before .before .before .before .before .before .before .before .before .before .before .before .pre) .1 .1 .0) ((c .before .before .before .before .before .before .before .before .before .before .before .before .before .before .pre) .1 .1 .1) (c .before .before .before .before .before .before .before .before .before .before .top .ensures) (c .before .before .before .before .before .find-repair .ensures) (c .before .before .before .e .given .1))))
+try-edit-requires c κs =
+    let at-find-repair = c .before .before .before .before .before in
+    let at-top = at-find-repair .before .before .before .before .before in
+    let s = at-top .before .before .before .before in
+    (s .pre .0, (s .pre .1 .0, ((let a = s .pre .1 .1 .0 in omega arith), found-fits (s .args .st) _ (s .args .size) (s .args .a) (s .args .v) (s .pre .0 .phase) (s .pre .1 .1 .0) (s .pre .1 .1 .1) (at-top .top .ensures) (at-find-repair .find-repair .ensures) (c .before .before .before .e .given .1))))
 
 same-length : tie.Need-same-length
 same-length c = search needs
 
 returns : tie.Need-returns
-returns c = step-said (c .before .before .before .before .before .before .before .before .before .before .before .before .before .before .before .args .st) _ _ (nothing-step (c .before .before .before .before .before .before .before .before .before .before .before .before .before .before .before .args .st) _ (c .before .before .before .before .before .before .before .before .before .before .before .before .before .before .before .args .size) (c .before .before .before .before .before .before .before .before .before .before .before .before .before .before .before .args .a) (c .before .before .before .before .before .before .before .before .before .before .before .before .before .before .before .args .v) ((c .before .before .before .before .before .before .before .before .before .before .before .before .before .before .before .pre) .0 .phase) ((c .before .before .before .before .before .before .before .before .before .before .before .before .before .before .before .pre) .1 .1 .0) ((c .before .before .before .before .before .before .before .before .before .before .before .before .before .before .before .pre) .1 .1 .1) (c .before .before .before .before .before .before .before .before .before .before .before .top .ensures) (c .before .before .before .before .before .before .find-repair .ensures) (c .before .before .before .before .enum-told .given .1)) (waiting-said (c .before .before .before .before .before .before .before .before .before .before .before .before .before .before .before .args .st) _ _ _ (c .before .before .leave-waiting .ensures))
+returns c =
+    let at-enum-told = c .before .before .before .before in
+    let at-find-repair = at-enum-told .before .before in
+    let at-top = at-find-repair .before .before .before .before .before in
+    let s = at-top .before .before .before .before in
+    step-said (s .args .st) _ _ (nothing-step (s .args .st) _ (s .args .size) (s .args .a) (s .args .v) (s .pre .0 .phase) (s .pre .1 .1 .0) (s .pre .1 .1 .1) (at-top .top .ensures) (at-find-repair .find-repair .ensures) (at-enum-told .enum-told .given .1)) (waiting-said (s .args .st) _ _ _ (c .before .before .leave-waiting .ensures))
 
 same-length-2 : tie.Need-same-length-2
 same-length-2 c = search needs
@@ -47,7 +58,14 @@ same-length-3 : tie.Need-same-length-3
 same-length-3 c = search needs
 
 returns-2 : tie.Need-returns-2
-returns-2 c = step-said (c .before .before .before .before .before .before .before .before .before .before .before .before .before .before .before .before .before .before .before .args .st) _ _ (found-step (c .before .before .before .before .before .before .before .before .before .before .before .before .before .before .before .before .before .before .before .args .st) _ (c .before .before .before .before .before .before .before .before .before .before .before .before .before .before .before .before .before .before .before .args .size) (c .before .before .before .before .before .before .before .before .before .before .before .before .before .before .before .before .before .before .before .args .a) (c .before .before .before .before .before .before .before .before .before .before .before .before .before .before .before .before .before .before .before .args .v) ((c .before .before .before .before .before .before .before .before .before .before .before .before .before .before .before .before .before .before .before .pre) .0 .phase) ((c .before .before .before .before .before .before .before .before .before .before .before .before .before .before .before .before .before .before .before .pre) .1 .1 .0) ((c .before .before .before .before .before .before .before .before .before .before .before .before .before .before .before .before .before .before .before .pre) .1 .1 .1) (c .before .before .before .before .before .before .before .before .before .before .before .before .before .before .before .top .ensures) (c .before .before .before .before .before .before .before .before .before .before .find-repair .ensures) (c .before .before .before .before .before .before .before .before .before .before .before .repair-how .ensures) (c .before .before .before .before .before .before .before .before .e .given .1)) (c .before .before .before .before .try-edit .ensures)
+returns-2 c =
+    let at-try-edit = c .before .before .before .before in
+    let at-e = at-try-edit .before .before .before .before in
+    let at-find-repair = at-e .before .before in
+    let at-repair-how = at-find-repair .before in
+    let at-top = at-repair-how .before .before .before .before in
+    let s = at-top .before .before .before .before in
+    step-said (s .args .st) _ _ (found-step (s .args .st) _ (s .args .size) (s .args .a) (s .args .v) (s .pre .0 .phase) (s .pre .1 .1 .0) (s .pre .1 .1 .1) (at-top .top .ensures) (at-find-repair .find-repair .ensures) (at-repair-how .repair-how .ensures) (at-e .e .given .1)) (at-try-edit .try-edit .ensures)
 
 pub take-syndrome-spec : {M : Type 1} → statement M
 take-syndrome-spec =

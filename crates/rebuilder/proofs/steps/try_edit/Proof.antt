@@ -19,7 +19,9 @@ cast-q : tie.Need-cast-q
 cast-q c = search needs
 
 hash-edited-requires : tie.Need-hash-edited-requires
-hash-edited-requires c κs = (editable (c .before .before .before .before .before .before .before .before .args .st) _ _ ((c .before .before .before .before .before .before .before .before .pre) .0) (c .before .before .before .before .top .ensures) _ (c .before .before .before .before .before .before .before .before .args .e) ((c .before .before .before .before .before .before .before .before .pre) .1 .0 .copy) ((c .before .before .before .before .before .before .before .before .pre) .1 .1 .1), narrow (c .before .before .before .before .before .before .before .before .args .st) _ _ ((c .before .before .before .before .before .before .before .before .pre) .0) (c .before .before .before .before .top .ensures))
+hash-edited-requires c κs =
+    let s = c .before .before .before .before .before .before .before .before in
+    (editable (s .args .st) _ _ (s .pre .0) (c .before .before .before .before .top .ensures) _ (s .args .e) (s .pre .1 .0 .copy) (s .pre .1 .1 .1), narrow (s .args .st) _ _ (s .pre .0) (c .before .before .before .before .top .ensures))
 
 leave-waiting-requires : tie.Need-leave-waiting-requires
 leave-waiting-requires c κs = search needs
@@ -28,10 +30,18 @@ same-length : tie.Need-same-length
 same-length c = search needs
 
 returns : tie.Need-returns
-returns c = try-no (c .before .before .before .before .before .before .before .before .before .before .before .before .before .before .args .st) _ _ (c .before .before .before .before .before .before .before .before .before .before .before .before .before .before .args .v) (c .before .before .before .before .before .before .before .before .before .before .before .before .before .before .args .how) (c .before .before .before .before .before .before .before .before .before .before .before .before .before .before .args .e) (c .before .before .before .before .before .before .before .before .before .before .top .ensures) (c .before .before .before .before .before .hash-edited .ensures) (c .before .before .before .before .if1 .taken) _ (c .before .before .leave-waiting .ensures)
+returns c =
+    let at-if1 = c .before .before .before .before in
+    let at-hash-edited = at-if1 .before in
+    let at-top = at-hash-edited .before .before .before .before .before in
+    let s = at-top .before .before .before .before in
+    try-no (s .args .st) _ _ (s .args .v) (s .args .how) (s .args .e) (at-top .top .ensures) (at-hash-edited .hash-edited .ensures) (at-if1 .if1 .taken) _ (c .before .before .leave-waiting .ensures)
 
 copy-edited-requires : tie.Need-copy-edited-requires
-copy-edited-requires c κs = (editable (c .before .before .before .before .before .before .before .before .before .before .before .args .st) _ _ ((c .before .before .before .before .before .before .before .before .before .before .before .pre) .0) (c .before .before .before .before .before .before .before .top .ensures) _ (c .before .before .before .before .before .before .before .before .before .before .before .args .e) ((c .before .before .before .before .before .before .before .before .before .before .before .pre) .1 .0 .copy) ((c .before .before .before .before .before .before .before .before .before .before .before .pre) .1 .1 .1), text-part (c .before .before .before .before .before .before .before .before .before .before .before .args .st) _ _ ((c .before .before .before .before .before .before .before .before .before .before .before .pre) .0) (c .before .before .before .before .before .before .before .top .ensures) _ ((c .before .before .before .before .before .before .before .before .before .before .before .pre) .1 .0 .text))
+copy-edited-requires c κs =
+    let at-top = c .before .before .before .before .before .before .before in
+    let s = at-top .before .before .before .before in
+    (editable (s .args .st) _ _ (s .pre .0) (at-top .top .ensures) _ (s .args .e) (s .pre .1 .0 .copy) (s .pre .1 .1 .1), text-part (s .args .st) _ _ (s .pre .0) (at-top .top .ensures) _ (s .pre .1 .0 .text))
 
 settle-requires : tie.Need-settle-requires
 settle-requires c κs = search needs
@@ -43,7 +53,13 @@ same-length-3 : tie.Need-same-length-3
 same-length-3 c = search needs
 
 returns-2 : tie.Need-returns-2
-returns-2 c = try-yes (c .before .before .before .before .before .before .before .before .before .before .before .before .before .before .before .before .before .before .args .st) _ _ (c .before .before .before .before .before .before .before .before .before .before .before .before .before .before .before .before .before .before .args .v) (c .before .before .before .before .before .before .before .before .before .before .before .before .before .before .before .before .before .before .args .how) (c .before .before .before .before .before .before .before .before .before .before .before .before .before .before .before .before .before .before .args .e) (c .before .before .before .before .before .before .before .before .before .before .before .before .before .before .top .ensures) (c .before .before .before .before .before .before .before .before .before .hash-edited .ensures) (c .before .before .before .before .before .before .before .before .if1 .left) _ (c .before .before .before .before .before .before .copy-edited .ensures) (c .before .before .settle .ensures)
+returns-2 c =
+    let at-copy-edited = c .before .before .before .before .before .before in
+    let at-if1 = at-copy-edited .before .before in
+    let at-hash-edited = at-if1 .before in
+    let at-top = at-hash-edited .before .before .before .before .before in
+    let s = at-top .before .before .before .before in
+    try-yes (s .args .st) _ _ (s .args .v) (s .args .how) (s .args .e) (at-top .top .ensures) (at-hash-edited .hash-edited .ensures) (at-if1 .if1 .left) _ (at-copy-edited .copy-edited .ensures) (c .before .before .settle .ensures)
 
 pub try-edit-spec : {M : Type 1} → statement M
 try-edit-spec =
