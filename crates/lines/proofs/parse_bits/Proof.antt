@@ -29,7 +29,14 @@ same-length : tie.Need-same-length
 same-length c = search needs
 
 returns-4 : tie.Need-returns-4
-returns-4 c = string-packed (c .before .before .before .before .before .before .before .before .before .before .before .before .before .before .args .s .now) (c .before .before .before .before .before .before .before .before .before .before .before .before .before .before .args .out .now) (c .before .before .before .before .before .before .before .before .before .before .before .if1 .left) (c .before .before .before .before .before .before .before .before .before .before .only-bits .ensures) (not-false _ (c .before .before .before .before .before .before .before .before .before .if2 .left)) (c .before .before .before .before .before .before .before .before .if3 .left) _ _ (c .before .before .before .before .before .before .clear-bytes .ensures) (c .before .before .write-line .ensures)
+returns-4 c =
+    let at-clear-bytes = c .before .before .before .before .before .before in
+    let at-if3 = at-clear-bytes .before .before in
+    let at-if2 = at-if3 .before in
+    let at-only-bits = at-if2 .before in
+    let at-if1 = at-only-bits .before in
+    let s = at-if1 .before .before .before in
+    string-packed (s .args .s .now) (s .args .out .now) (at-if1 .if1 .left) (at-only-bits .only-bits .ensures) (not-false _ (at-if2 .if2 .left)) (at-if3 .if3 .left) _ _ (at-clear-bytes .clear-bytes .ensures) (c .before .before .write-line .ensures)
 
 pub parse-bits-spec : {M : Type 1} → statement M
 parse-bits-spec =

@@ -40,7 +40,11 @@ add-v : tie.Need-add-v Inv-loop μ-loop
 add-v c = omega (arith, c .before .before .before .shared-slice-known2 .given (c .before .before .before .before .before .loop .i))
 
 returns-3 : tie.Need-returns-3 Inv-loop μ-loop
-returns-3 c = decimal-large (c .before .before .before .before .before .before .before .before .before .args .s .now) _ (c .before .before .before .before .before .before .loop .i + 1) _ (decimal-next (c .before .before .before .before .before .before .before .before .before .args .s .now) (c .before .before .before .before .before .before .loop .v) (c .before .before .before .before .before .before .loop .i) _ (c .before .before .before .before .before .before .loop .inv .1) (c .before .before .before .before .before .loop-test .taken) (c .before .before .before .is-digit .ensures) (not-false _ (c .before .before .if2 .left)) _ (c .before .digit-value .ensures)) (search needs)
+returns-3 c =
+    let at-loop-test = c .before .before .before .before .before in
+    let at-loop = at-loop-test .before in
+    let s = at-loop .before .before .before in
+    decimal-large (s .args .s .now) _ (at-loop .loop .i + 1) _ (decimal-next (s .args .s .now) (at-loop .loop .v) (at-loop .loop .i) _ (at-loop .loop .inv .1) (at-loop-test .loop-test .taken) (c .before .before .before .is-digit .ensures) (not-false _ (c .before .before .if2 .left)) _ (c .before .digit-value .ensures)) (search needs)
 
 add-i : tie.Need-add-i Inv-loop μ-loop
 add-i c = search needs
@@ -49,7 +53,11 @@ loop-less : tie.Need-loop-less Inv-loop μ-loop
 loop-less c = search needs
 
 loop-again : tie.Need-loop-again Inv-loop μ-loop
-loop-again c = (search needs, decimal-next (c .before .before .before .before .before .before .before .before .before .args .s .now) (c .before .before .before .before .before .before .loop .v) (c .before .before .before .before .before .before .loop .i) _ (c .before .before .before .before .before .before .loop .inv .1) (c .before .before .before .before .before .loop-test .taken) (c .before .before .before .is-digit .ensures) (not-false _ (c .before .before .if2 .left)) _ (c .before .digit-value .ensures))
+loop-again c =
+    let at-loop-test = c .before .before .before .before .before in
+    let at-loop = at-loop-test .before in
+    let s = at-loop .before .before .before in
+    (search needs, decimal-next (s .args .s .now) (at-loop .loop .v) (at-loop .loop .i) _ (at-loop .loop .inv .1) (at-loop-test .loop-test .taken) (c .before .before .before .is-digit .ensures) (not-false _ (c .before .before .if2 .left)) _ (c .before .digit-value .ensures))
 
 cast-t14 : tie.Need-cast-t14 Inv-loop μ-loop
 cast-t14 c = search needs

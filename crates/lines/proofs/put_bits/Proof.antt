@@ -49,7 +49,9 @@ same-length : tie.Need-same-length Inv-loop μ-loop
 same-length c = search needs
 
 returns : tie.Need-returns Inv-loop μ-loop
-returns c = text-whole (c .before .before .before .before .args .s .now) (c .before .before .before .before .args .out .now) _ (c .before .before .before .before .args .n) (c .before .before .before .before .args .at) (text-last (c .before .before .before .before .args .s .now) (c .before .loop .out) _ (c .before .before .before .before .args .n) (c .before .before .before .before .args .at) (c .before .loop .i) (c .before .loop .inv .2) (c .loop-test .left))
+returns c =
+    let s = c .before .before .before .before in
+    text-whole (s .args .s .now) (s .args .out .now) _ (s .args .n) (s .args .at) (text-last (s .args .s .now) (c .before .loop .out) _ (s .args .n) (s .args .at) (c .before .loop .i) (c .before .loop .inv .2) (c .loop-test .left))
 
 pub put-bits-spec : {M : Type 1} → statement M
 put-bits-spec =

@@ -46,7 +46,10 @@ loop-less : tie.Need-loop-less Inv-loop μ-loop
 loop-less c = search needs
 
 loop-again : tie.Need-loop-again Inv-loop μ-loop
-loop-again c = (omega arith, omega arith, simp length-set (c .before .before .before .before .loop .inv .2), hex-next (c .before .before .before .before .before .before .before .args .s .now) (c .before .before .before .before .loop .out) _ (c .before .before .before .before .loop .i) (c .before .before .before .before .loop .j) (c .before .before .before .before .loop .inv .3) (c .before .before .before .loop-test .taken) _ _ (c .before .hex-digit .ensures) (c .hex-digit2 .ensures))
+loop-again c =
+    let at-loop = c .before .before .before .before in
+    let s = at-loop .before .before .before in
+    (omega arith, omega arith, simp length-set (at-loop .loop .inv .2), hex-next (s .args .s .now) (at-loop .loop .out) _ (at-loop .loop .i) (at-loop .loop .j) (at-loop .loop .inv .3) (c .before .before .before .loop-test .taken) _ _ (c .before .hex-digit .ensures) (c .hex-digit2 .ensures))
 
 same-length : tie.Need-same-length Inv-loop μ-loop
 same-length c = search needs

@@ -15,17 +15,26 @@ put-next-requires : tie.Need-put-next-requires
 put-next-requires c κs = omega (arith, length-text (c .before .before .before .before .before .before .before .before .before .before .before .args .s .now) (c .before .before .before .before .before .before .before .before .before .before .before .args .n))
 
 put-next-requires-2 : tie.Need-put-next-requires-2
-put-next-requires-2 c κs = omega (arith, length-text (c .before .before .before .before .before .before .before .before .before .before .before .before .before .before .before .args .s .now) (c .before .before .before .before .before .before .before .before .before .before .before .before .before .before .before .args .n), length-decimal (c .before .before .before .before .before .before .before .before .before .before .before .before .before .before .before .args .questions))
+put-next-requires-2 c κs =
+    let s = c .before .before .before .before .before .before .before .before .before .before .before .before .before .before .before in
+    omega (arith, length-text (s .args .s .now) (s .args .n), length-decimal (s .args .questions))
 
 put-byte-requires : tie.Need-put-byte-requires
-put-byte-requires c κs = omega (arith, length-text (c .before .before .before .before .before .before .before .before .before .before .before .before .before .before .before .before .before .before .before .args .s .now) (c .before .before .before .before .before .before .before .before .before .before .before .before .before .before .before .before .before .before .before .args .n), length-decimal (c .before .before .before .before .before .before .before .before .before .before .before .before .before .before .before .before .before .before .before .args .questions), length-decimal (c .before .before .before .before .before .before .before .before .before .before .before .before .before .before .before .before .before .before .before .args .counted))
+put-byte-requires c κs =
+    let s = c .before .before .before .before .before .before .before .before .before .before .before .before .before .before .before .before .before .before .before in
+    omega (arith, length-text (s .args .s .now) (s .args .n), length-decimal (s .args .questions), length-decimal (s .args .counted))
 
 same-length : tie.Need-same-length
 same-length c = search needs
 
 returns : tie.Need-returns
 unfolding lastLine
-returns c = puts-next (c .before .before .before .before .before .before .before .before .before .before .before .before .before .before .before .before .before .before .put-letter .ensures) (puts-next (c .before .before .before .before .before .before .before .before .before .before .before .before .before .before .put-bits .ensures) (puts-next (c .before .before .before .before .before .before .before .before .before .before .put-next .ensures) (puts-next (c .before .before .before .before .before .before .put-next2 .ensures) (c .before .before .put-byte .ensures))))
+returns c =
+    let at-put-next2 = c .before .before .before .before .before .before in
+    let at-put-next = at-put-next2 .before .before .before .before in
+    let at-put-bits = at-put-next .before .before .before .before in
+    let at-put-letter = at-put-bits .before .before .before .before in
+    puts-next (at-put-letter .put-letter .ensures) (puts-next (at-put-bits .put-bits .ensures) (puts-next (at-put-next .put-next .ensures) (puts-next (at-put-next2 .put-next2 .ensures) (c .before .before .put-byte .ensures))))
 
 pub put-last-line-spec : {M : Type 1} → statement M
 put-last-line-spec =

@@ -15,17 +15,26 @@ put-next-requires-2 : tie.Need-put-next-requires-2
 put-next-requires-2 c κs = omega (arith, length-decimal (c .before .before .before .before .before .before .before .before .before .before .args .start))
 
 put-next-requires-3 : tie.Need-put-next-requires-3
-put-next-requires-3 c κs = omega (arith, length-decimal (c .before .before .before .before .before .before .before .before .before .before .before .before .before .before .args .start), length-decimal (c .before .before .before .before .before .before .before .before .before .before .before .before .before .before .args .len))
+put-next-requires-3 c κs =
+    let s = c .before .before .before .before .before .before .before .before .before .before .before .before .before .before in
+    omega (arith, length-decimal (s .args .start), length-decimal (s .args .len))
 
 put-byte-requires-2 : tie.Need-put-byte-requires-2
-put-byte-requires-2 c κs = omega (arith, length-decimal (c .before .before .before .before .before .before .before .before .before .before .before .before .before .before .before .before .before .before .args .start), length-decimal (c .before .before .before .before .before .before .before .before .before .before .before .before .before .before .before .before .before .before .args .len), length-decimal (c .before .before .before .before .before .before .before .before .before .before .before .before .before .before .before .before .before .before .args .how))
+put-byte-requires-2 c κs =
+    let s = c .before .before .before .before .before .before .before .before .before .before .before .before .before .before .before .before .before .before in
+    omega (arith, length-decimal (s .args .start), length-decimal (s .args .len), length-decimal (s .args .how))
 
 same-length : tie.Need-same-length
 same-length c = search needs
 
 returns : tie.Need-returns
 unfolding rowLine
-returns c = puts-next (c .before .before .before .before .before .before .before .before .before .before .before .before .before .before .before .before .before .before .put-byte .ensures) (puts-next (c .before .before .before .before .before .before .before .before .before .before .before .before .before .before .put-next .ensures) (puts-next (c .before .before .before .before .before .before .before .before .before .before .put-next2 .ensures) (puts-next (c .before .before .before .before .before .before .put-next3 .ensures) (c .before .before .put-byte2 .ensures))))
+returns c =
+    let at-put-next3 = c .before .before .before .before .before .before in
+    let at-put-next2 = at-put-next3 .before .before .before .before in
+    let at-put-next = at-put-next2 .before .before .before .before in
+    let at-put-byte = at-put-next .before .before .before .before in
+    puts-next (at-put-byte .put-byte .ensures) (puts-next (at-put-next .put-next .ensures) (puts-next (at-put-next2 .put-next2 .ensures) (puts-next (at-put-next3 .put-next3 .ensures) (c .before .before .put-byte2 .ensures))))
 
 pub put-row-line-spec : {M : Type 1} → statement M
 put-row-line-spec =

@@ -33,7 +33,11 @@ same-length : tie.Need-same-length
 same-length c = search needs
 
 returns-2 : tie.Need-returns-2
-returns-2 c = c .before .before .parse-bits .ensures ∙ string-found (c .before .before .before .before .before .before .before .before .before .before .before .args .input .now) (c .before .before .before .before .before .before .before .before .before .before .before .args .out .now) (c .before .before .before .before .before .before .before .before .before .before .before .args .index) (c .before .before .before .before .before .before .before .before .find-field .ensures) _ _ (c .before .before .before .before .before .before .a .given .1)
+returns-2 c =
+    let at-a = c .before .before .before .before .before .before in
+    let at-find-field = at-a .before .before in
+    let s = at-find-field .before .before .before in
+    c .before .before .parse-bits .ensures ∙ string-found (s .args .input .now) (s .args .out .now) (s .args .index) (at-find-field .find-field .ensures) _ _ (at-a .a .given .1)
 
 pub read-string-spec : {M : Type 1} → statement M
 read-string-spec =

@@ -31,7 +31,11 @@ loop-less : tie.Need-loop-less Inv-loop μ-loop
 loop-less c = search needs
 
 loop-again : tie.Need-loop-again Inv-loop μ-loop
-loop-again c = (ap length (c .before .before .set-bit .ensures) ∙ length-setBit (c .before .before .before .before .before .before .loop .out) (c .before .before .before .before .before .before .loop .i) _ ∙ c .before .before .before .before .before .before .loop .inv .0, line-next (c .before .before .before .before .before .before .before .before .before .args .s .now) (c .before .before .before .before .before .before .loop .i) (c .before .before .before .before .before .before .loop .out) _ _ (c .before .before .before .before .before .loop-test .taken) (c .before .before .set-bit .ensures) (c .before .before .before .before .before .before .loop .inv .1))
+loop-again c =
+    let at-loop-test = c .before .before .before .before .before in
+    let at-loop = at-loop-test .before in
+    let s = at-loop .before .before .before in
+    (ap length (c .before .before .set-bit .ensures) ∙ length-setBit (at-loop .loop .out) (at-loop .loop .i) _ ∙ at-loop .loop .inv .0, line-next (s .args .s .now) (at-loop .loop .i) (at-loop .loop .out) _ _ (at-loop-test .loop-test .taken) (c .before .before .set-bit .ensures) (at-loop .loop .inv .1))
 
 same-length : tie.Need-same-length Inv-loop μ-loop
 same-length c = search needs

@@ -12,39 +12,51 @@ enum-told : tie.Need-enum-told
 enum-told c = search needs
 
 copy-bits-requires : tie.Need-copy-bits-requires
-copy-bits-requires c κs = let m = as-keep (c .before .before .before .before .before .args .e) (c .before .before .before .before .before .args .len) (c .before .before .before .before .before .args .n) (c .before .before .before .before .before .pre .0 .fits) (c .before .enum-told .given .1) in (record { there = omega arith; few = omega arith }, c .before .before .before .before .before .pre .1)
+copy-bits-requires c κs =
+    let s = c .before .before .before .before .before in
+    let m = as-keep (s .args .e) (s .args .len) (s .args .n) (s .pre .0 .fits) (c .before .enum-told .given .1) in (record { there = omega arith; few = omega arith }, s .pre .1)
 
 enum-known-e : tie.Need-enum-known-e
 enum-known-e c = search needs
 
 copy-put-requires : tie.Need-copy-put-requires
-copy-put-requires c κs = let m = as-put (c .before .before .before .before .before .before .args .e) (c .before .before .before .before .before .before .args .len) (c .before .before .before .before .before .before .args .n) (c .before .before .before .before .before .before .pre .0 .fits) (c .before .before .e .given .0 .0) (c .before .before .e .given .0 .1 .0) (c .before .before .e .given .1) in
-    let m1 = m .1 in (c .before .before .before .before .before .before .pre .0 .part, (m .0, record { there = omega arith; few = omega arith }))
+copy-put-requires c κs =
+    let s = c .before .before .before .before .before .before in
+    let m = as-put (s .args .e) (s .args .len) (s .args .n) (s .pre .0 .fits) (c .before .before .e .given .0 .0) (c .before .before .e .given .0 .1 .0) (c .before .before .e .given .1) in
+    let m1 = m .1 in (s .pre .0 .part, (m .0, record { there = omega arith; few = omega arith }))
 
 enum-known-e-2 : tie.Need-enum-known-e-2
 enum-known-e-2 c = search needs
 
 copy-take-requires : tie.Need-copy-take-requires
-copy-take-requires c κs = let m = as-take (c .before .before .before .before .before .before .args .e) (c .before .before .before .before .before .before .args .len) (c .before .before .before .before .before .before .args .n) (c .before .before .before .before .before .before .pre .0 .fits) (c .before .before .e2 .given .0 .0) (c .before .before .e2 .given .1) in
-    let m1 = m .1 in (c .before .before .before .before .before .before .pre .0 .part, (m .0, record { there = omega arith; few = omega arith }))
+copy-take-requires c κs =
+    let s = c .before .before .before .before .before .before in
+    let m = as-take (s .args .e) (s .args .len) (s .args .n) (s .pre .0 .fits) (c .before .before .e2 .given .0 .0) (c .before .before .e2 .given .1) in
+    let m1 = m .1 in (s .pre .0 .part, (m .0, record { there = omega arith; few = omega arith }))
 
 same-length : tie.Need-same-length
 same-length c = search needs
 
 returns : tie.Need-returns
-returns c = c .before .before .copy-bits .ensures ∙ ap (writeBits (c .before .before .before .before .before .before .before .before .args .to .now) (c .before .before .before .before .before .before .before .before .args .at)) (edited-keep (c .before .before .before .before .before .before .before .before .args .e) (c .before .before .before .before .before .before .before .before .args .len) (c .before .before .before .before .before .before .before .before .args .n) (c .before .before .before .before .before .before .before .before .pre .0 .fits) (c .before .before .before .before .before .before .before .before .args .s .now) (c .before .before .before .before .before .before .before .before .args .start) (c .before .before .before .before .enum-told .given .1))
+returns c =
+    let s = c .before .before .before .before .before .before .before .before in
+    c .before .before .copy-bits .ensures ∙ ap (writeBits (s .args .to .now) (s .args .at)) (edited-keep (s .args .e) (s .args .len) (s .args .n) (s .pre .0 .fits) (s .args .s .now) (s .args .start) (c .before .before .before .before .enum-told .given .1))
 
 same-length-2 : tie.Need-same-length-2
 same-length-2 c = search needs
 
 returns-2 : tie.Need-returns-2
-returns-2 c = c .before .before .copy-put .ensures ∙ ap (writeBits (c .before .before .before .before .before .before .before .before .before .args .to .now) (c .before .before .before .before .before .before .before .before .before .args .at)) (edited-as (c .before .before .before .before .before .before .before .before .before .args .e) _ (range (c .before .before .before .before .before .before .before .before .before .args .s .now) (c .before .before .before .before .before .before .before .before .before .args .start) (c .before .before .before .before .before .before .before .before .before .args .len)) (c .before .before .before .before .before .e .given .1))
+returns-2 c =
+    let s = c .before .before .before .before .before .before .before .before .before in
+    c .before .before .copy-put .ensures ∙ ap (writeBits (s .args .to .now) (s .args .at)) (edited-as (s .args .e) _ (range (s .args .s .now) (s .args .start) (s .args .len)) (c .before .before .before .before .before .e .given .1))
 
 same-length-3 : tie.Need-same-length-3
 same-length-3 c = search needs
 
 returns-3 : tie.Need-returns-3
-returns-3 c = c .before .before .copy-take .ensures ∙ ap (writeBits (c .before .before .before .before .before .before .before .before .before .args .to .now) (c .before .before .before .before .before .before .before .before .before .args .at)) (edited-as (c .before .before .before .before .before .before .before .before .before .args .e) _ (range (c .before .before .before .before .before .before .before .before .before .args .s .now) (c .before .before .before .before .before .before .before .before .before .args .start) (c .before .before .before .before .before .before .before .before .before .args .len)) (c .before .before .before .before .before .e2 .given .1))
+returns-3 c =
+    let s = c .before .before .before .before .before .before .before .before .before in
+    c .before .before .copy-take .ensures ∙ ap (writeBits (s .args .to .now) (s .args .at)) (edited-as (s .args .e) _ (range (s .args .s .now) (s .args .start) (s .args .len)) (c .before .before .before .before .before .e2 .given .1))
 
 pub copy-edited-spec : {M : Type 1} → statement M
 copy-edited-spec =

@@ -33,7 +33,11 @@ same-length : tie.Need-same-length
 same-length c = search needs
 
 returns : tie.Need-returns
-returns c = put-copied (c .before .before .before .before .before .before .before .before .before .before .before .before .before .before .args .s .now) (c .before .before .before .before .before .before .before .before .before .before .before .before .before .before .args .start) (c .before .before .before .before .before .before .before .before .before .before .before .before .before .before .args .len) (c .before .before .before .before .before .before .before .before .before .before .before .before .before .before .args .i) (c .before .before .before .before .before .before .before .before .before .before .before .before .before .before .args .to .now) _ _ _ (c .before .before .before .before .before .before .before .before .before .before .before .before .before .before .args .at) (c .before .before .before .before .before .before .before .before .before .before .before .before .before .before .args .b) (c .before .before .before .before .before .before .before .before .before .before .before .before .before .before .pre .1 .0) (c .before .before .before .before .before .before .before .before .before .before .copy-bits .ensures) (c .before .before .before .before .before .before .set-bit .ensures) (c .before .before .copy-bits2 .ensures)
+returns c =
+    let at-set-bit = c .before .before .before .before .before .before in
+    let at-copy-bits = at-set-bit .before .before .before .before in
+    let s = at-copy-bits .before .before .before .before in
+    put-copied (s .args .s .now) (s .args .start) (s .args .len) (s .args .i) (s .args .to .now) _ _ _ (s .args .at) (s .args .b) (s .pre .1 .0) (at-copy-bits .copy-bits .ensures) (at-set-bit .set-bit .ensures) (c .before .before .copy-bits2 .ensures)
 
 pub copy-put-spec : {M : Type 1} → statement M
 copy-put-spec =

@@ -30,7 +30,9 @@ same-length : tie.Need-same-length
 same-length c = search needs
 
 returns : tie.Need-returns
-returns c = take-copied (c .before .before .before .before .before .before .before .before .before .before .args .s .now) (c .before .before .before .before .before .before .before .before .before .before .args .start) (c .before .before .before .before .before .before .before .before .before .before .args .len) (c .before .before .before .before .before .before .before .before .before .before .args .i) (c .before .before .before .before .before .before .before .before .before .before .args .to .now) _ _ (c .before .before .before .before .before .before .before .before .before .before .args .at) (c .before .before .before .before .before .before .before .before .before .before .pre .1 .0) (c .before .before .before .before .before .before .copy-bits .ensures) (c .before .before .copy-bits2 .ensures)
+returns c =
+    let s = c .before .before .before .before .before .before .before .before .before .before in
+    take-copied (s .args .s .now) (s .args .start) (s .args .len) (s .args .i) (s .args .to .now) _ _ (s .args .at) (s .pre .1 .0) (c .before .before .before .before .before .before .copy-bits .ensures) (c .before .before .copy-bits2 .ensures)
 
 pub copy-take-spec : {M : Type 1} → statement M
 copy-take-spec =

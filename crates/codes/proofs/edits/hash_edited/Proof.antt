@@ -18,22 +18,32 @@ enum-known-e : tie.Need-enum-known-e
 enum-known-e c = search needs
 
 hash-put-requires : tie.Need-hash-put-requires
-hash-put-requires c κs = (c .before .before .before .before .pre .0 .part, (as-put (c .before .before .before .before .args .e) (c .before .before .before .before .args .len) (c .before .before .before .before .args .n) (c .before .before .before .before .pre .0 .fits) (c .before .e .given .0 .0) (c .before .e .given .0 .1 .0) (c .before .e .given .1) .0, c .before .before .before .before .pre .1))
+hash-put-requires c κs =
+    let s = c .before .before .before .before in
+    (s .pre .0 .part, (as-put (s .args .e) (s .args .len) (s .args .n) (s .pre .0 .fits) (c .before .e .given .0 .0) (c .before .e .given .0 .1 .0) (c .before .e .given .1) .0, s .pre .1))
 
 enum-known-e-2 : tie.Need-enum-known-e-2
 enum-known-e-2 c = search needs
 
 hash-take-requires : tie.Need-hash-take-requires
-hash-take-requires c κs = (c .before .before .before .before .pre .0 .part, (as-take (c .before .before .before .before .args .e) (c .before .before .before .before .args .len) (c .before .before .before .before .args .n) (c .before .before .before .before .pre .0 .fits) (c .before .e2 .given .0 .0) (c .before .e2 .given .1) .0, c .before .before .before .before .pre .1))
+hash-take-requires c κs =
+    let s = c .before .before .before .before in
+    (s .pre .0 .part, (as-take (s .args .e) (s .args .len) (s .args .n) (s .pre .0 .fits) (c .before .e2 .given .0 .0) (c .before .e2 .given .1) .0, s .pre .1))
 
 returns : tie.Need-returns
-returns c = c .hash-of .ensures ∙ ap (hash (c .before .before .before .before .args .h) (c .before .before .before .before .args .key)) (edited-keep (c .before .before .before .before .args .e) (c .before .before .before .before .args .len) (c .before .before .before .before .args .n) (c .before .before .before .before .pre .0 .fits) (c .before .before .before .before .args .s .now) (c .before .before .before .before .args .start) (c .before .enum-told .given .1))
+returns c =
+    let s = c .before .before .before .before in
+    c .hash-of .ensures ∙ ap (hash (s .args .h) (s .args .key)) (edited-keep (s .args .e) (s .args .len) (s .args .n) (s .pre .0 .fits) (s .args .s .now) (s .args .start) (c .before .enum-told .given .1))
 
 returns-2 : tie.Need-returns-2
-returns-2 c = c .hash-put .ensures ∙ ap (hash (c .before .before .before .before .before .args .h) (c .before .before .before .before .before .args .key)) (edited-as (c .before .before .before .before .before .args .e) _ (range (c .before .before .before .before .before .args .s .now) (c .before .before .before .before .before .args .start) (c .before .before .before .before .before .args .len)) (c .before .before .e .given .1))
+returns-2 c =
+    let s = c .before .before .before .before .before in
+    c .hash-put .ensures ∙ ap (hash (s .args .h) (s .args .key)) (edited-as (s .args .e) _ (range (s .args .s .now) (s .args .start) (s .args .len)) (c .before .before .e .given .1))
 
 returns-3 : tie.Need-returns-3
-returns-3 c = c .hash-take .ensures ∙ ap (hash (c .before .before .before .before .before .args .h) (c .before .before .before .before .before .args .key)) (edited-as (c .before .before .before .before .before .args .e) _ (range (c .before .before .before .before .before .args .s .now) (c .before .before .before .before .before .args .start) (c .before .before .before .before .before .args .len)) (c .before .before .e2 .given .1))
+returns-3 c =
+    let s = c .before .before .before .before .before in
+    c .hash-take .ensures ∙ ap (hash (s .args .h) (s .args .key)) (edited-as (s .args .e) _ (range (s .args .s .now) (s .args .start) (s .args .len)) (c .before .before .e2 .given .1))
 
 pub hash-edited-spec : {M : Type 1} → statement M
 hash-edited-spec =

@@ -28,7 +28,9 @@ low-bits-requires : tie.Need-low-bits-requires
 low-bits-requires c κs = search needs
 
 returns : tie.Need-returns
-returns c = c .low-bits .ensures ∙ take-hashed (c .before .before .before .before .args .s .now) (c .before .before .before .before .args .start) (c .before .before .before .before .args .len) (c .before .before .before .before .args .i) (c .before .before .before .before .args .h) (c .before .before .before .before .args .key) _ _ (c .before .before .hash-on .ensures) _ _ (c .before .before .before .before .pre .1 .0) (c .before .hash-on2 .ensures)
+returns c =
+    let s = c .before .before .before .before in
+    c .low-bits .ensures ∙ take-hashed (s .args .s .now) (s .args .start) (s .args .len) (s .args .i) (s .args .h) (s .args .key) _ _ (c .before .before .hash-on .ensures) _ _ (s .pre .1 .0) (c .before .hash-on2 .ensures)
 
 pub hash-take-spec : {M : Type 1} → statement M
 hash-take-spec =

@@ -47,7 +47,9 @@ get-bit-requires : tie.Need-get-bit-requires Inv-loop μ-loop
 get-bit-requires c κs = search needs
 
 add-for-bit : tie.Need-add-for-bit Inv-loop μ-loop
-add-for-bit c = let m = ones-most (c .before .before .before .before .before .before .before .before .args .s .now) (c .before .before .before .before .before .before .before .before .args .start) (c .before .before .before .before .before .before .before .before .args .len) (c .before .before .loop .i) in omega arith
+add-for-bit c =
+    let s = c .before .before .before .before .before .before .before .before in
+    let m = ones-most (s .args .s .now) (s .args .start) (s .args .len) (c .before .before .loop .i) in omega arith
 
 for-bit-requires : tie.Need-for-bit-requires Inv-loop μ-loop
 for-bit-requires c κs = search needs
@@ -72,8 +74,10 @@ cast-right : tie.Need-cast-right Inv-loop μ-loop
 cast-right c = search needs
 
 sub-right : tie.Need-sub-right Inv-loop μ-loop
-sub-right c = let b = c .before .before .get-bit .result in
-    let o = ones-next _ _ b (rest-is (c .before .before .before .before .before .before .before .before .before .before .args .s .now) (c .before .before .before .before .before .before .before .before .before .before .args .start) (c .before .before .before .before .before .before .before .before .before .before .args .len) (c .before .before .before .before .loop .i) b b (c .before .before .before .loop-test .taken) (c .before .before .get-bit .ensures) refl) in omega arith
+sub-right c =
+    let s = c .before .before .before .before .before .before .before .before .before .before in
+    let b = c .before .before .get-bit .result in
+    let o = ones-next _ _ b (rest-is (s .args .s .now) (s .args .start) (s .args .len) (c .before .before .before .before .loop .i) b b (c .before .before .before .loop-test .taken) (c .before .before .get-bit .ensures) refl) in omega arith
 
 add-i : tie.Need-add-i Inv-loop μ-loop
 add-i c = search needs
@@ -93,7 +97,9 @@ loop-again c = let args = c .before .before .before .before .before .before .bef
     )
 
 returns-3 : tie.Need-returns-3 Inv-loop μ-loop
-returns-3 c = sym (first-take-end (c .before .before .before .before .before .before .before .args .a) (range (c .before .before .before .before .before .before .before .args .s .now) (c .before .before .before .before .before .before .before .args .start) (c .before .before .before .before .before .before .before .args .len)) (c .before .before .before .before .before .before .before .args .len) (c .before .loop .i) (c .loop-test .left)) ∙ c .before .loop .inv .2
+returns-3 c =
+    let s = c .before .before .before .before .before .before .before in
+    sym (first-take-end (s .args .a) (range (s .args .s .now) (s .args .start) (s .args .len)) (s .args .len) (c .before .loop .i) (c .loop-test .left)) ∙ c .before .loop .inv .2
 
 pub take-place-spec : {M : Type 1} → statement M
 take-place-spec =

@@ -40,7 +40,12 @@ piece-fits-requires : tie.Need-piece-fits-requires Inv-loop μ-loop
 piece-fits-requires c κs = search needs
 
 returns : tie.Need-returns Inv-loop μ-loop
-returns c = sym (order-not (c .before .before .before .before .before .before .wide .result) (c .before .before .before .before .before .wide2 .result) (c .before .before .before .before .loop .x) (c .before .before .before .before .loop .y) (c .before .before .before .before .before .before .before .args .t1 .pieces) (c .before .before .before .before .loop .i) (c .before .before .before .loop-test .taken) (c .before .piece-fits .result) (c .before .piece-fits .ensures) (not-true _ (c .if1 .taken))) ∙ c .before .before .before .before .loop .inv .1
+returns c =
+    let at-loop = c .before .before .before .before in
+    let at-wide2 = at-loop .before in
+    let at-wide = at-wide2 .before in
+    let s = at-wide .before in
+    sym (order-not (at-wide .wide .result) (at-wide2 .wide2 .result) (at-loop .loop .x) (at-loop .loop .y) (s .args .t1 .pieces) (at-loop .loop .i) (c .before .before .before .loop-test .taken) (c .before .piece-fits .result) (c .before .piece-fits .ensures) (not-true _ (c .if1 .taken))) ∙ at-loop .loop .inv .1
 
 wide-requires-3 : tie.Need-wide-requires-3 Inv-loop μ-loop
 wide-requires-3 c κs = search needs
@@ -64,13 +69,21 @@ loop-less : tie.Need-loop-less Inv-loop μ-loop
 loop-less c = search needs
 
 loop-again : tie.Need-loop-again Inv-loop μ-loop
-loop-again c = let a = c .before .before .before .wide3 .ensures .0 in
+loop-again c =
+    let at-if1 = c .before .before .before .before in
+    let at-piece-fits = at-if1 .before in
+    let at-loop-test = at-piece-fits .before .before in
+    let at-loop = at-loop-test .before in
+    let at-wide2 = at-loop .before in
+    let at-wide = at-wide2 .before in
+    let s = at-wide .before in
+    let a = c .before .before .before .wide3 .ensures .0 in
     let b = c .before .before .wide4 .ensures .0 in
     let d = c .before .wide5 .ensures .0 in
     let f = c .wide6 .ensures .0 in (
       omega arith,
-      sym (order-next (c .before .before .before .before .before .before .before .before .before .before .wide .result) (c .before .before .before .before .before .before .before .before .before .wide2 .result) (c .before .before .before .before .before .before .before .before .loop .x) (c .before .before .before .before .before .before .before .before .loop .y) (c .before .before .before .before .before .before .before .before .before .before .before .args .t1 .pieces) (c .before .before .before .before .before .before .before .before .loop .i) (c .before .before .before .before .before .before .before .loop-test .taken) (c .before .before .before .before .before .piece-fits .result) (c .before .before .before .before .before .piece-fits .ensures) (not-false _ (c .before .before .before .before .if1 .left)) _ _ (ap₂ _+_ a b) (ap₂ _+_ d f))
-          ∙ c .before .before .before .before .before .before .before .before .loop .inv .1,
+      sym (order-next (at-wide .wide .result) (at-wide2 .wide2 .result) (at-loop .loop .x) (at-loop .loop .y) (s .args .t1 .pieces) (at-loop .loop .i) (at-loop-test .loop-test .taken) (at-piece-fits .piece-fits .result) (at-piece-fits .piece-fits .ensures) (not-false _ (at-if1 .if1 .left)) _ _ (ap₂ _+_ a b) (ap₂ _+_ d f))
+          ∙ at-loop .loop .inv .1,
     )
 
 returns-2 : tie.Need-returns-2 Inv-loop μ-loop

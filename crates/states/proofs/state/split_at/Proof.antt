@@ -39,17 +39,27 @@ push-requires : tie.Need-push-requires
 push-requires c κs = let k = after-pop (c .before .before .before .before .before .before .args .st) (c .before .before .before .before .pop .result) (c .before .before .before .before .pop .ensures) .waiting in omega arith
 
 push-requires-2 : tie.Need-push-requires-2
-push-requires-2 c κs = let a = after-push (c .before .before .before .before .before .before .before .args .st) (c .before .before .before .before .before .pop .result) (c .push .result) _ _ (after-pop (c .before .before .before .before .before .before .before .args .st) (c .before .before .before .before .before .pop .result) (c .before .before .before .before .before .pop .ensures)) (c .push .ensures) in
+push-requires-2 c κs =
+    let at-pop = c .before .before .before .before .before in
+    let s = at-pop .before .before in
+    let a = after-push (s .args .st) (at-pop .pop .result) (c .push .result) _ _ (after-pop (s .args .st) (at-pop .pop .result) (at-pop .pop .ensures)) (c .push .ensures) in
     let k = a .waiting in
     omega arith
 
 restage-requires : tie.Need-restage-requires
-restage-requires c κs = let one = after-pop (c .before .before .before .before .before .before .before .before .args .st) (c .before .before .before .before .before .before .pop .result) (c .before .before .before .before .before .before .pop .ensures) in
-    let two = after-push (c .before .before .before .before .before .before .before .before .args .st) (c .before .before .before .before .before .before .pop .result) (c .before .push .result) _ _ one (c .before .push .ensures) in
-    stages-after _ _ _ (c .before .before .before .before .before .before .before .before .pre .usable) (omega arith) (after-push (c .before .before .before .before .before .before .before .before .args .st) (c .before .push .result) (c .push2 .result) _ _ two (c .push2 .ensures))
+restage-requires c κs =
+    let at-pop = c .before .before .before .before .before .before in
+    let s = at-pop .before .before in
+    let one = after-pop (s .args .st) (at-pop .pop .result) (at-pop .pop .ensures) in
+    let two = after-push (s .args .st) (at-pop .pop .result) (c .before .push .result) _ _ one (c .before .push .ensures) in
+    stages-after _ _ _ (s .pre .usable) (omega arith) (after-push (s .args .st) (c .before .push .result) (c .push2 .result) _ _ two (c .push2 .ensures))
 
 returns : tie.Need-returns
-returns c = split-is (c .before .before .before .before .before .before .before .before .before .args .st) (c .before .before .before .before .before .before .before .pop .result) (c .before .before .push .result) (c .before .push2 .result) (c .restage .result) (c .before .before .before .before .before .before .before .before .top .result) (c .before .before .before .before .before .before .before .before .before .args .s) (c .before .before .before .before .before .before .before .before .before .args .r) (c .before .before .before .before .before .before .before .before .top .ensures) (c .before .before .before .before .before .before .before .pop .ensures) (c .before .before .push .ensures) (c .before .push2 .ensures) (c .restage .ensures)
+returns c =
+    let at-pop = c .before .before .before .before .before .before .before in
+    let at-top = at-pop .before in
+    let s = at-top .before in
+    split-is (s .args .st) (at-pop .pop .result) (c .before .before .push .result) (c .before .push2 .result) (c .restage .result) (at-top .top .result) (s .args .s) (s .args .r) (at-top .top .ensures) (at-pop .pop .ensures) (c .before .before .push .ensures) (c .before .push2 .ensures) (c .restage .ensures)
 
 pub split-at-spec : {M : Type 1} → statement M
 split-at-spec =
