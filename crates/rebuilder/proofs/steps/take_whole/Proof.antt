@@ -10,10 +10,16 @@ cast-copy-bits : tie.Need-cast-copy-bits
 cast-copy-bits c = search needs
 
 copy-bits-requires : tie.Need-copy-bits-requires
-copy-bits-requires c κs = (whole-text (c .before .before .before .before .before .before .args .st) _ _ ((c .before .before .before .before .before .before .pre) .0) _ ((c .before .before .before .before .before .before .pre) .1 .1), whole-text (c .before .before .before .before .before .before .args .st) _ _ ((c .before .before .before .before .before .before .pre) .0) _ ((c .before .before .before .before .before .before .pre) .1 .0))
+copy-bits-requires c κs =
+    let s = c .before .before .before .before .before .before in
+    let text = whole-text (s .args .st) _ _ (s .pre .0) in
+    (text _ (s .pre .1 .1), text _ (s .pre .1 .0))
 
 finish-requires : tie.Need-finish-requires
-finish-requires c κs = (rw (c .before .before .before .before .before .before .whole-state .ensures) (whole-next (c .before .before .before .before .before .before .before .before .before .before .args .st) _ _ ((c .before .before .before .before .before .before .before .before .before .before .pre) .0)), (c .before .before .before .before .before .before .before .before .before .before .pre) .0 .enough)
+finish-requires c κs =
+    let at-whole-state = c .before .before .before .before .before .before in
+    let s = at-whole-state .before .before .before .before in
+    (rw (at-whole-state .whole-state .ensures) (whole-next (s .args .st) _ _ (s .pre .0)), s .pre .0 .enough)
 
 same-length : tie.Need-same-length
 same-length c = search needs
@@ -22,7 +28,11 @@ same-length-2 : tie.Need-same-length-2
 same-length-2 c = search needs
 
 returns : tie.Need-returns
-returns c = λ y. whole-said (c .before .before .before .before .before .before .before .before .before .before .before .before .before .args .st) _ _ ((c .before .before .before .before .before .before .before .before .before .before .before .before .before .pre) .0) (c .before .before .before .before .before .before .before .before .before .whole-state .ensures) y _ _ (c .before .before .before .before .before .before .copy-bits .ensures) (c .before .before .finish .ensures)
+returns c = λ y.
+    let at-copy-bits = c .before .before .before .before .before .before in
+    let at-whole-state = at-copy-bits .before .before .before in
+    let s = at-whole-state .before .before .before .before in
+    whole-said (s .args .st) _ _ (s .pre .0) (at-whole-state .whole-state .ensures) y _ _ (at-copy-bits .copy-bits .ensures) (c .before .before .finish .ensures)
 
 pub take-whole-spec : {M : Type 1} → statement M
 take-whole-spec =
