@@ -153,6 +153,7 @@ module _ (k : HolderCalled) where
   abbrev pub holderLeaves : HolderLeft
   holderLeaves = holderLeft (k .s) (k .reply) (holderOnBytes (k .s) (k .x) (k .bits) (k .msg) (length (k .reply)))
 
+  -- what the call on the state gives
   abbrev heard : Heard
   heard = holderCall (k .st) (k .x) (k .bits) (k .msg) (length (k .reply))
 

@@ -89,11 +89,11 @@ module _ (s y : List ℕ) (bits : ℕ) (msg string sheet question : List ℕ) wh
   rebuilder-called e f = rw (e, eq-eqb (length s) 564 f) refl
 
 -- the length of the next question
-abbrev pub sizeOf : Option ℕ → ℕ
-sizeOf (some size) = size
-sizeOf none = 0
+abbrev pub askedSize : Option ℕ → ℕ
+askedSize (some size) = size
+askedSize none = 0
 
-next-size : (m : List ℕ) → sizeOf (nextSize m) ≡ length m
+next-size : (m : List ℕ) → askedSize (nextSize m) ≡ length m
 next-size [] = refl
 next-size (b ∷ m) = refl
 
@@ -115,15 +115,15 @@ module _ (s string sheet question string′ question′ : List ℕ) (st : Rebuil
 
   -- n is the length of the next question, if there is one
   module _ (n : Option ℕ) (said : callSaid (out .answer) ≡ value n) where
-    said-size : (j : Step) (m : List ℕ) → saidRebuilder out string′ question′ ≡ leavesRebuilder st string question (takes j m) → sizeOf n ≡ length m
+    said-size : (j : Step) (m : List ℕ) → saidRebuilder out string′ question′ ≡ leavesRebuilder st string question (takes j m) → askedSize n ≡ length m
     said-size j m k =
         let a : callSaid (out .answer) ≡ value (nextSize m) = ap (λ (w : RebuilderSaid). w .answer) k in
         let b : n ≡ nextSize m = cc in
-        ap sizeOf b ∙ next-size m
+        ap askedSize b ∙ next-size m
 
     said-taken : (t : Taken) (s′ sheet′ : List ℕ) → saidRebuilder out string′ question′ ≡ leavesRebuilder st string question t
         → s′ ≡ rebuilderBytes (out .state) → sheet′ ≡ sheetBytesAfter sheet (out .sheet)
-        → record { result = sizeOf n * 16; state = s′; string = string′; sheet = sheet′; question = question′ } ≡ rebuilderLeft s string sheet question t
+        → record { result = askedSize n * 16; state = s′; string = string′; sheet = sheet′; question = question′ } ≡ rebuilderLeft s string sheet question t
     unfolding packed
     said-taken (refuses d) s′ sheet′ k g h =
         let a : callSaid (out .answer) ≡ refusal (refusalNumber d) = ap (λ (w : RebuilderSaid). w .answer) k in
@@ -137,7 +137,7 @@ module _ (s string sheet question string′ question′ : List ℕ) (st : Rebuil
         rw (a, g, b, h, c, d, f) refl
 
     said-small : (t : Taken) → saidRebuilder out string′ question′ ≡ leavesRebuilder st string question t
-        → ((j : Step) (m : List ℕ) → t ≡ takes j m → length m ≤ 16) → sizeOf n ≤ 16
+        → ((j : Step) (m : List ℕ) → t ≡ takes j m → length m ≤ 16) → askedSize n ≤ 16
     said-small (refuses d) k h =
         let a : callSaid (out .answer) ≡ refusal (refusalNumber d) = ap (λ (w : RebuilderSaid). w .answer) k in
         let z : _≡_ {A = ℕ} 0 1 = cc in absurd (omega arith)
@@ -165,6 +165,10 @@ module _ (k : RebuilderCalled) where
   abbrev rooms : Rooms
   rooms = roomsIn (k .string) (k .sheet) (k .question)
 
+  abbrev pub calledLeaves : RebuilderLeft
+  calledLeaves = callLeaves (k .s) (k .y) (k .bits) (k .msg) (k .string) (k .sheet) (k .question)
+
+  -- what the call on the state gives
   abbrev heard : Taken
   heard = rebuilderCall (k .st) (k .y) (k .bits) (k .msg) rooms
 
@@ -173,22 +177,22 @@ module _ (k : RebuilderCalled) where
       let r = change-fits (k .st) (k .y) (k .bits) (k .msg) rooms (k .string) (k .question) (k .string′) (k .question′) (k .out) (k .said) in
       omega arith
 
-  called : rebuilderLeft (k .s) (k .string) (k .sheet) (k .question) heard ≡ callLeaves (k .s) (k .y) (k .bits) (k .msg) (k .string) (k .sheet) (k .question)
+  called : rebuilderLeft (k .s) (k .string) (k .sheet) (k .question) heard ≡ calledLeaves
   called = sym (rw (rebuilder-called (k .s) (k .y) (k .bits) (k .msg) (k .string) (k .sheet) (k .question) (k .rule) (k .whole), k .read) refl)
 
   pub call-declined : {d : Refusal} {r : ℕ} → k .out .answer ≡ Refused d → r ≡ packed (refusal (refusalNumber d))
-      → record { result = r; state = k .s; string = k .string′; sheet = k .sheet; question = k .question′ } ≡ callLeaves (k .s) (k .y) (k .bits) (k .msg) (k .string) (k .sheet) (k .question)
+      → record { result = r; state = k .s; string = k .string′; sheet = k .sheet; question = k .question′ } ≡ calledLeaves
   call-declined {d} a h =
       (rw h (said-declined (k .s) (k .string) (k .sheet) (k .question) (k .string′) (k .question′) (k .st) (k .out) heard d (k .said) a)) ∙ called
 
   module _ {n : Option ℕ} (a : callSaid (k .out .answer) ≡ value n) where
-    pub call-small : sizeOf n ≤ 16
+    pub call-small : askedSize n ≤ 16
     call-small =
         said-small (k .s) (k .string) (k .sheet) (k .question) (k .string′) (k .question′) (k .st) (k .out) n a heard (k .said)
         (taken-small (k .st) (k .y) (k .bits) (k .msg) rooms)
 
-    pub call-taken : {r : ℕ} {s′ sheet′ : List ℕ} → r ≡ sizeOf n * 16 → s′ ≡ rebuilderBytes (k .out .state) ++ drop 564 (k .s) → sheet′ ≡ sheetBytesAfter (k .sheet) (k .out .sheet)
-        → record { result = r; state = s′; string = k .string′; sheet = sheet′; question = k .question′ } ≡ callLeaves (k .s) (k .y) (k .bits) (k .msg) (k .string) (k .sheet) (k .question)
+    pub call-taken : {r : ℕ} {s′ sheet′ : List ℕ} → r ≡ askedSize n * 16 → s′ ≡ rebuilderBytes (k .out .state) ++ drop 564 (k .s) → sheet′ ≡ sheetBytesAfter (k .sheet) (k .out .sheet)
+        → record { result = r; state = s′; string = k .string′; sheet = sheet′; question = k .question′ } ≡ calledLeaves
     call-taken {r} {s′} {sheet′} h i j =
         let w = k .whole in
         let all : s′ ≡ rebuilderBytes (k .out .state) = rw i (rw (drop-of-length-le (k .s) {i = 564} (omega arith)) (append-nil (rebuilderBytes (k .out .state)))) in
@@ -277,6 +281,7 @@ pub record StartCalled : Type 0 where
   pub said : saidStart out question′ ≡ leavesStart question (rebuilderStart given y bits (length question))
 
 module _ (k : StartCalled) where
+  -- what the start gives
   abbrev began : Started
   began = rebuilderStart (k .S) (k .y) (k .bits) (length (k .question))
 
