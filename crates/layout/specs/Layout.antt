@@ -6,7 +6,7 @@ use Rattle.protocol.specs.declared.Holder.{Holder}
 use Rattle.protocol.specs.declared.Piece.{Piece}
 use Rattle.protocol.specs.declared.Rebuilder.{Rebuilder}
 use Rattle.protocol.specs.States.{noPiece}
-use Rattle.layout.specs.Bytes32.{bytesOf, numberAt}
+use Rattle.layout.specs.Bytes32.{bytesOf, wordAt}
 
 -- numbers, one after the other
 unfoldable pub allBytes : List ℕ → List ℕ
@@ -18,14 +18,14 @@ unfoldable pub holderBytes : Holder → List ℕ
 holderBytes st = allBytes (st .opened ∷ st .bits ∷ st .h ∷ st .key ∷ st .answers ∷ [])
 
 unfoldable pub holderOf : List ℕ → Holder
-holderOf s = record { opened = numberAt s 0; bits = numberAt s 4; h = numberAt s 8; key = numberAt s 12; answers = numberAt s 16 }
+holderOf s = record { opened = wordAt s 0; bits = wordAt s 4; h = wordAt s 8; key = wordAt s 12; answers = wordAt s 16 }
 
 -- ---- a piece: 16 bytes
 unfoldable pub pieceBytes : Piece → List ℕ
 pieceBytes pc = allBytes (pc .x ∷ pc .p ∷ pc .y ∷ pc .q ∷ [])
 
 unfoldable pub pieceAt : List ℕ → ℕ → Piece
-pieceAt s at = record { x = numberAt s at; p = numberAt s (at + 4); y = numberAt s (at + 8); q = numberAt s (at + 12) }
+pieceAt s at = record { x = wordAt s at; p = wordAt s (at + 4); y = wordAt s (at + 8); q = wordAt s (at + 12) }
 
 -- n pieces of a list, from number i on
 unfoldable pub piecesBytes : List Piece → (i n : ℕ) → List ℕ
@@ -49,15 +49,15 @@ rebuilderBytes st = fieldBytes st ++ piecesBytes (st .pieces) 0 32
 -- the state whose numbers stand in s, with the pieces l
 unfoldable pub fieldsOf : List ℕ → List Piece → Rebuilder
 fieldsOf s l = record {
-  settings = record { m = numberAt s 0; h = numberAt s 4; k = numberAt s 8; key = numberAt s 12; ceiling = numberAt s 16 };
-  ybits = numberAt s 20;
-  phase = numberAt s 24;
-  n = numberAt s 28;
-  answered = numberAt s 32;
-  counted = numberAt s 36;
-  rows = numberAt s 40;
-  stage = numberAt s 44;
-  waiting = numberAt s 48;
+  settings = record { m = wordAt s 0; h = wordAt s 4; k = wordAt s 8; key = wordAt s 12; ceiling = wordAt s 16 };
+  ybits = wordAt s 20;
+  phase = wordAt s 24;
+  n = wordAt s 28;
+  answered = wordAt s 32;
+  counted = wordAt s 36;
+  rows = wordAt s 40;
+  stage = wordAt s 44;
+  waiting = wordAt s 48;
   pieces = l;
 }
 

@@ -7,7 +7,7 @@ use Rattle.protocol.specs.declared.Row.{Row}
 use Rattle.protocol.specs.declared.SheetChange.{SheetChange}
 use Rattle.protocol.specs.declared.SheetChange.the-variants.{NoRow, AddRow, OneRow}
 use Rattle.protocol.specs.RebuilderCall.{noRow}
-use Rattle.layout.specs.Bytes32.{numberAt}
+use Rattle.layout.specs.Bytes32.{wordAt}
 use Rattle.layout.specs.Layout.{allBytes}
 
 unfoldable pub rowBytes : Row → List ℕ
@@ -19,7 +19,7 @@ rowsBytes (r ∷ l) = rowBytes r ++ rowsBytes l
 
 -- the row at an offset
 unfoldable pub rowAt : List ℕ → ℕ → Row
-rowAt s at = record { start = numberAt s at; len = numberAt s (at + 4); how = numberAt s (at + 8) }
+rowAt s at = record { start = wordAt s at; len = wordAt s (at + 4); how = wordAt s (at + 8) }
 
 -- n rows from an offset on
 unfoldable pub rowsAt : List ℕ → (at n : ℕ) → List Row

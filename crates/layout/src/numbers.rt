@@ -4,7 +4,7 @@ ghost use mathlib.Core.List.{[], _∷_};
 ghost use Prim.Native.Nat.{_+_, _≤_};
 ghost use lib.ListN.{length};
 ghost use lib.Seq.{sets};
-ghost use Rattle.layout.specs.Bytes32.{bytesOf, numberAt};
+ghost use Rattle.layout.specs.Bytes32.{bytesOf, wordAt};
 ghost use Rattle.layout.specs.Layout.{allBytes};
 
 // A byte as a number of 32 bits.
@@ -17,7 +17,7 @@ fn wide(b: u8) -> u32
 // The number at offset `at`.
 pub fn read_u32(s: &[u8], at: usize) -> u32
     requires { ⌜ at + 4 ≤ length (now s) ⌝ }
-    ensures { λ r. ⌜ r ≡ numberAt (now (s .entry)) at ⌝ }
+    ensures { λ r. ⌜ r ≡ wordAt (now (s .entry)) at ⌝ }
 {
     let a = wide(s[at]);
     let b = wide(s[at + 1]);

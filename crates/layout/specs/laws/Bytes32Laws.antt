@@ -7,7 +7,7 @@ use native.Mathlib.Omega.{arith}
 use lib.ListN.{length, getD, set}
 use lib.Seq.{sets, getD-append-add}
 use Rattle.strings.specs.laws.PackLaws.{Bytes}
-use Rattle.layout.specs.Bytes32.{bytesOf, numberAt}
+use Rattle.layout.specs.Bytes32.{bytesOf, wordAt}
 use Rattle.strings.specs.laws.StoreLaws.{getD-sets-before, getD-sets-behind, getD-sets-in}
 
 -- a number's digits to base 256
@@ -28,32 +28,32 @@ digits v h =
     sums v a b c q r s t e f g h = omega arith
 
 -- behind a list, offsets count on
-pub number-behind : (p l : List ℕ) (i : ℕ) → numberAt (p ++ l) (length p + i) ≡ numberAt l i
-unfolding numberAt
+pub number-behind : (p l : List ℕ) (i : ℕ) → wordAt (p ++ l) (length p + i) ≡ wordAt l i
+unfolding wordAt
 number-behind p l i =
     rw (add-assoc (length p) i 1, add-assoc (length p) i 2, add-assoc (length p) i 3, getD-append-add p l i 0, getD-append-add p l (i + 1) 0, getD-append-add p l (i + 2) 0, getD-append-add p l (i + 3) 0) refl
 
 module _ (s : List ℕ) (at : ℕ) (vs : List ℕ) where
   -- a list stored elsewhere changes no number
-  pub number-before : (i : ℕ) → i + 4 ≤ at → numberAt (sets s at vs) i ≡ numberAt s i
-  unfolding numberAt
+  pub number-before : (i : ℕ) → i + 4 ≤ at → wordAt (sets s at vs) i ≡ wordAt s i
+  unfolding wordAt
   number-before i h =
       rw (getD-sets-before s at vs i 0 (omega arith), getD-sets-before s at vs (i + 1) 0 (omega arith), getD-sets-before s at vs (i + 2) 0 (omega arith), getD-sets-before s at vs (i + 3) 0 (omega arith)) refl
 
-  pub number-after : (i : ℕ) → at + length vs ≤ i → numberAt (sets s at vs) i ≡ numberAt s i
-  unfolding numberAt
+  pub number-after : (i : ℕ) → at + length vs ≤ i → wordAt (sets s at vs) i ≡ wordAt s i
+  unfolding wordAt
   number-after i h =
       rw (getD-sets-behind s at vs i 0 (omega arith), getD-sets-behind s at vs (i + 1) 0 (omega arith), getD-sets-behind s at vs (i + 2) 0 (omega arith), getD-sets-behind s at vs (i + 3) 0 (omega arith)) refl
 
   -- and a number in it is read where it stands
-  pub number-in : (i : ℕ) → i + 4 ≤ length vs → at + length vs ≤ length s → numberAt (sets s at vs) (at + i) ≡ numberAt vs i
-  unfolding numberAt
+  pub number-in : (i : ℕ) → i + 4 ≤ length vs → at + length vs ≤ length s → wordAt (sets s at vs) (at + i) ≡ wordAt vs i
+  unfolding wordAt
   number-in i h k =
       rw (add-assoc at i 1, add-assoc at i 2, add-assoc at i 3, getD-sets-in s at vs i 0 (omega arith) k, getD-sets-in s at vs (i + 1) 0 (omega arith) k, getD-sets-in s at vs (i + 2) 0 (omega arith) k, getD-sets-in s at vs (i + 3) 0 (omega arith) k) refl
 
 -- what was read is below 2^32
-pub number-below : (s : List ℕ) (at : ℕ) → Bytes s → numberAt s at < 4294967296
-unfolding numberAt
+pub number-below : (s : List ℕ) (at : ℕ) → Bytes s → wordAt s at < 4294967296
+unfolding wordAt
 number-below s at b =
     let b0 = b at in let b1 = b (at + 1) in let b2 = b (at + 2) in let b3 = b (at + 3) in
     omega arith
@@ -71,6 +71,6 @@ four-stores s at v =
 
 -- four bytes read one by one
 pub number-sum : (s : List ℕ) (at a b c d : ℕ) → a ≡ getD s at 0 → b ≡ getD s (at + 1) 0 → c ≡ getD s (at + 2) 0 → d ≡ getD s (at + 3) 0
-    → a + 256 * b + 65536 * c + 16777216 * d ≡ numberAt s at
-unfolding numberAt
+    → a + 256 * b + 65536 * c + 16777216 * d ≡ wordAt s at
+unfolding wordAt
 number-sum s at a b c d e f g h = omega arith

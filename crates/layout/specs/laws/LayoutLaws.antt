@@ -12,7 +12,7 @@ use Rattle.protocol.specs.declared.Holder.{Holder}
 use Rattle.protocol.specs.declared.Piece.{Piece}
 use Rattle.protocol.specs.declared.Rebuilder.{Rebuilder}
 use Rattle.protocol.specs.States.{noPiece}
-use Rattle.layout.specs.Bytes32.{bytesOf, numberAt}
+use Rattle.layout.specs.Bytes32.{bytesOf, wordAt}
 use Rattle.layout.specs.Layout.{allBytes, holderBytes, holderOf, pieceBytes, pieceAt, piecesBytes, piecesAt, fieldBytes, rebuilderBytes, fieldsOf, rebuilderOf}
 use Rattle.strings.specs.laws.StoreLaws.{sets-append, sets-front}
 use Rattle.strings.specs.laws.PackLaws.{Bytes}
@@ -98,7 +98,7 @@ pub holder-same : {a b c d e a′ b′ c′ d′ e′ : ℕ} → a ≡ a′ → 
 holder-same p q r s t = rw (p, q, r, s, t) refl
 
 pub holder-read : (st : Holder) (l : List ℕ) → HolderFits st → holderOf (holderBytes st ++ l) ≡ st
-unfolding holderOf holderBytes allBytes bytesOf numberAt
+unfolding holderOf holderBytes allBytes bytesOf wordAt
 holder-read st l f =
     holder-same (digits (st .opened) (f .opened-fits)) (digits (st .bits) (f .bits-fits)) (digits (st .h) (f .h-fits)) (digits (st .key) (f .key-fits))
     (digits (st .answers) (f .answers-fits))
@@ -123,10 +123,10 @@ pub piece-same : {a b c d a′ b′ c′ d′ : ℕ} → a ≡ a′ → b ≡ b�
 piece-same p q r s = rw (p, q, r, s) refl
 
 piece-read : (pc : Piece) (b l : List ℕ) → PieceFits pc → pieceAt (b ++ (pieceBytes pc ++ l)) (length b) ≡ pc
-unfolding pieceAt pieceBytes allBytes bytesOf numberAt
+unfolding pieceAt pieceBytes allBytes bytesOf wordAt
 piece-read pc b l f =
     piece-same
-    (ap (λ (i : ℕ). numberAt (b ++ (pieceBytes pc ++ l)) i) (sym (add-zero (length b))) ∙ number-behind b (pieceBytes pc ++ l) 0 ∙ digits (pc .x) (f .x-fits))
+    (ap (λ (i : ℕ). wordAt (b ++ (pieceBytes pc ++ l)) i) (sym (add-zero (length b))) ∙ number-behind b (pieceBytes pc ++ l) 0 ∙ digits (pc .x) (f .x-fits))
     (number-behind b (pieceBytes pc ++ l) 4 ∙ digits (pc .p) (f .p-fits))
     (number-behind b (pieceBytes pc ++ l) 8 ∙ digits (pc .y) (f .y-fits))
     (number-behind b (pieceBytes pc ++ l) 12 ∙ digits (pc .q) (f .q-fits))
@@ -174,7 +174,7 @@ pieces-back st l f =
     ∙ take-all 32 (st .pieces) (let e = f .pieces-number in omega arith)
 
 pub rebuilder-read : (st : Rebuilder) (l : List ℕ) → RebuilderFits st → rebuilderOf (rebuilderBytes st ++ l) ≡ st
-unfolding rebuilderOf fieldsOf rebuilderBytes fieldBytes allBytes bytesOf numberAt
+unfolding rebuilderOf fieldsOf rebuilderBytes fieldBytes allBytes bytesOf wordAt
 rebuilder-read st l f =
     let g = f .settings-fit in
     state-same

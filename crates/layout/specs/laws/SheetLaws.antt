@@ -11,7 +11,7 @@ use Rattle.protocol.specs.declared.Row.{Row}
 use Rattle.protocol.specs.declared.SheetChange.{SheetChange}
 use Rattle.protocol.specs.declared.SheetChange.the-variants.{NoRow, AddRow, OneRow}
 use Rattle.protocol.specs.RebuilderCall.{noRow, sheetAfter, rowsNeeded}
-use Rattle.layout.specs.Bytes32.{bytesOf, numberAt}
+use Rattle.layout.specs.Bytes32.{bytesOf, wordAt}
 use Rattle.layout.specs.Layout.{allBytes}
 use Rattle.layout.specs.Sheet.{rowBytes, rowsBytes, rowAt, rowsAt, rowsIn, sheetBytesAfter}
 use Rattle.strings.specs.laws.StoreLaws.{sets-append}
@@ -35,10 +35,10 @@ pub row-same : {a b c a′ b′ c′ : ℕ} → a ≡ a′ → b ≡ b′ → c 
 row-same p q r = rw (p, q, r) refl
 
 row-stored : (s : List ℕ) (at : ℕ) (r : Row) → RowFits r → at + 12 ≤ length s → rowAt (sets s at (rowBytes r)) at ≡ r
-unfolding rowAt rowBytes allBytes bytesOf numberAt
+unfolding rowAt rowBytes allBytes bytesOf wordAt
 row-stored s at r f h =
     row-same
-    (ap (λ (i : ℕ). numberAt (sets s at (rowBytes r)) i) (sym (add-zero at)) ∙ number-in s at (rowBytes r) 0 (omega arith) (omega arith) ∙ digits (r .start) (f .start-fits))
+    (ap (λ (i : ℕ). wordAt (sets s at (rowBytes r)) i) (sym (add-zero at)) ∙ number-in s at (rowBytes r) 0 (omega arith) (omega arith) ∙ digits (r .start) (f .start-fits))
     (number-in s at (rowBytes r) 4 (omega arith) (omega arith) ∙ digits (r .len) (f .len-fits))
     (number-in s at (rowBytes r) 8 (omega arith) (omega arith) ∙ digits (r .how) (f .how-fits))
 
