@@ -39,7 +39,7 @@ pub fn pack_repair(a: RepairAnswer) -> u64
     }
 }
 
-// A place, none or a refusal.
+// A place, none or a refusal. A place that the search gave is at most 65,536, so that the result fits; this is what it requires.
 pub fn pack_place(a: AnchorAnswer) -> u64
     requires { ⌜ packed (numbered placeNumber (saidAnchor a)) ≤ 1048592 ⌝ }
     ensures { λ r. ⌜ r ≡ packed (numbered placeNumber (saidAnchor a)) ⌝ }

@@ -15,7 +15,7 @@ pub fn step(v: u32) -> u32
     b ^ (b << 5)
 }
 
-// The low h bits of v.
+// The low h bits of v. A hash has at most 32, by the settings' limits.
 pub fn low_bits(v: u32, h: u32) -> u32
     requires { ⌜ h ≤ 32 ⌝ }
     ensures { λ r. ⌜ r ≡ v % 2 ^ h ⌝ }

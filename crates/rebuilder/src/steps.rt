@@ -1,4 +1,5 @@
 // What an answer that was read makes of state, string, sheet and question: steps 1 to 4 of 01, "The rebuilder", and the whole string.
+// The functions require what the call has tested before it comes to them: a sound state that asks this question, and enough room.
 ghost use mathlib.Core.Path.{_≡_};
 ghost use mathlib.Core.Bool.{true};
 ghost use mathlib.Core.List.{List};
