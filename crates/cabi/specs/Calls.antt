@@ -9,10 +9,10 @@ use Rattle.strings.specs.StringRule.{stringRule}
 use Rattle.strings.specs.Refusals.{refusalNumber}
 use Rattle.strings.specs.declared.Refusal.the-variants.{BadSetting, BadString, OutOfTurn, NoRoom}
 use Rattle.codes.specs.Entries.{refusal, value}
-use Rattle.protocol.specs.declared.Settings.{Settings}
-use Rattle.protocol.specs.Limits.{withinLimits}
-use Rattle.protocol.specs.HolderCall.{Heard, declines, replies, unlessHeard, holderCall, freshHolder}
-use Rattle.protocol.specs.RebuilderCall.{Started, startDeclines, starts, unlessStarted, rebuilderStart, Taken, refuses, takes, unlessTaken, Rooms, rebuilderCall, stringAfter}
+use Rattle.strings.specs.declared.settings.Settings.{Settings}
+use Rattle.strings.specs.SettingLimits.{withinLimits}
+use Rattle.ends.specs.HolderCall.{Heard, declines, replies, unlessHeard, holderCall, freshHolder}
+use Rattle.ends.specs.RebuilderCall.{Started, startDeclines, starts, unlessStarted, rebuilderStart, Taken, refuses, takes, unlessTaken, Rooms, rebuilderCall, stringAfter}
 use Rattle.layout.specs.Layout.{holderBytes, holderOf, rebuilderBytes, rebuilderOf}
 use Rattle.layout.specs.Sheet.{sheetBytesAfter}
 use Rattle.cabi.specs.Packing.{packed}

@@ -5,18 +5,18 @@ ghost use mathlib.Core.List.{_++_};
 ghost use Prim.Native.Nat.{_*_, _≤_};
 ghost use lib.ListN.{length, drop};
 ghost use Rattle.codes.specs.Entries.{syndromeCall, hashCall, repairCall, leaves};
-ghost use Rattle.protocol.specs.RebuilderCall.{rowsNeeded};
-ghost use Rattle.anchors.specs.AnchorSearch.{anchorSearch};
+ghost use Rattle.ends.specs.RebuilderCall.{rowsNeeded};
+ghost use Rattle.ends.specs.AnchorSearch.{anchorSearch};
 ghost use Rattle.cabi.specs.Packing.{packed, numbered, outcomeNumber, placeNumber};
 ghost use Rattle.cabi.specs.Calls.{holderMade, holderOnBytes, holderLeft, startOnBytes, startLeft, rebuilderOnBytes, rebuilderLeft, roomsIn};
 ghost use Rattle.layout.specs.Layout.{rebuilderBytes};
 ghost use Rattle.layout.specs.Sheet.{sheetBytesAfter};
 use ends::HolderAnswer;
+use ends::Rebuilder;
 use ends::RebuilderAnswer;
+use ends::SheetChange;
 use ends::StartAnswer;
-use protocol::Rebuilder;
-use protocol::Settings;
-use protocol::SheetChange;
+use strings::Settings;
 
 mod packing;
 
@@ -61,7 +61,7 @@ pub extern "C" fn lo_anchor(
 ) -> u64
     ensures { λ r. ⌜ r ≡ packed (numbered placeNumber (anchorSearch (now (y .entry)) bits start q p s m k (now (a .entry)))) ⌝ }
 {
-    let answer = anchors::find_anchor(y, bits, start, q, p, s, m, k, a);
+    let answer = ends::find_anchor(y, bits, start, q, p, s, m, k, a);
     packing::pack_place(answer)
 }
 

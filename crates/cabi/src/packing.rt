@@ -3,12 +3,12 @@ ghost use mathlib.Core.Path.{_≡_};
 ghost use mathlib.Core.List.{List};
 ghost use Prim.Native.Nat.{ℕ, _≤_};
 ghost use Rattle.codes.specs.Entries.{said, saidRepair, refusal};
-ghost use Rattle.anchors.specs.AnchorSearch.{saidAnchor};
+ghost use Rattle.ends.specs.AnchorSearch.{saidAnchor};
 ghost use Rattle.strings.specs.Refusals.{refusalNumber};
 ghost use Rattle.cabi.specs.Packing.{packed, numbered, outcomeNumber, placeNumber};
-use anchors::AnchorAnswer;
 use codes::NumberAnswer;
 use codes::RepairAnswer;
+use ends::AnchorAnswer;
 use strings::Refusal;
 
 // A refusal.

@@ -2,21 +2,21 @@
 // rows and the rebuilt string, or the number of the refusal.
 ghost use Prim.Native.Nat.{_≤_};
 ghost use lib.ListN.{length};
-ghost use Rattle.protocol.specs.RebuilderCall.{rowsNeeded};
+ghost use Rattle.ends.specs.RebuilderCall.{rowsNeeded};
+use ends::Holder;
 use ends::HolderAnswer;
 use ends::HolderOut;
+use ends::Rebuilder;
 use ends::RebuilderAnswer;
 use ends::RebuilderOut;
+use ends::Row;
 use ends::StartAnswer;
 use libc::STDIN_FILENO;
 use libc::STDOUT_FILENO;
 use lines::SettingsRead;
 use lines::StringRead;
-use protocol::Holder;
-use protocol::Rebuilder;
-use protocol::Row;
-use protocol::Settings;
 use strings::Refusal;
+use strings::Settings;
 
 // How far the run is: a question of so many bytes waits for its answer, X is rebuilt, or a call was turned down.
 enum Progress {

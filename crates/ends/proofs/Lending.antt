@@ -23,8 +23,8 @@ use denote.Ref.{RefT}
 use denote.Slice.{sliceVal, MutSlice, heres, Room, finally, at-slice, codedHoleys}
 use denote.Lend.{Held, lends-slice, slice-back}
 use denote.Index.{row, whole-out, whole-in, opens-slice, closes-slice}
-use Rattle.protocol.specs.declared.Row.{Row}
-use Rattle.protocol.proofs.Row as T
+use Rattle.ends.specs.declared.Row.{Row}
+use Rattle.ends.proofs.Row as T
 
 module _ (b o : ℕ) where
   abbrev pub sheet : GName → List Row → RefT (List Row)

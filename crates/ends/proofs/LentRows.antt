@@ -34,10 +34,10 @@ use denote.Triple.Statement.{Contract, Triple}
 use denote.Triple.Call.{calls-at, calls-at-last}
 use denote.Triple.Clauses.{lasts}
 use denote.Triple.Walked.{says}
-use Rattle.protocol.specs.declared.Row.{Row}
-use Rattle.protocol.specs.RebuilderCall.{noRow}
-use Rattle.protocol.proofs.Row as T
-use Rattle.protocol.proofs.Row.Laws as T′
+use Rattle.ends.specs.declared.Row.{Row}
+use Rattle.ends.specs.RebuilderCall.{noRow}
+use Rattle.ends.proofs.Row as T
+use Rattle.ends.proofs.Row.Laws as T′
 use Rattle.ends.proofs.Lending.{sheet, Sheet, Kept, sheet-goes, sheet-returns}
 use Rattle.ends.proofs.sheet.write_row as write-row
 use Rattle.ends.proofs.sheet.write_row.Symbol.{name as #ends·write-row}

@@ -1,3 +1,4 @@
 -- What the proofs share.
+pub mod Arrays
 pub mod Lending
 pub mod LentRows

@@ -1,11 +1,11 @@
 -- What the rebuilder's call over a lent sheet of rows gives and leaves.
 use mathlib.Core.List.{List}
 use Prim.Native.Nat.{ℕ}
-use Rattle.protocol.specs.declared.Rebuilder.{Rebuilder}
-use Rattle.protocol.specs.declared.Row.{Row}
-use Rattle.protocol.specs.RebuilderCall.{Taken, refuses, takes, sheetAfter}
-use Rattle.rebuilder.specs.declared.RebuilderOut.{RebuilderOut}
-use Rattle.rebuilder.specs.RebuilderOutcome.{RebuilderSaid, saidRebuilder, leavesRebuilder}
+use Rattle.ends.specs.declared.Rebuilder.{Rebuilder}
+use Rattle.ends.specs.declared.Row.{Row}
+use Rattle.ends.specs.RebuilderCall.{Taken, refuses, takes, sheetAfter}
+use Rattle.ends.specs.declared.rebuilding.RebuilderOut.{RebuilderOut}
+use Rattle.ends.specs.RebuilderOutcome.{RebuilderSaid, saidRebuilder, leavesRebuilder}
 
 -- what the call gives and leaves in string and question buffer, and the rows of the sheet
 pub record SheetSaid : Type 0 where

@@ -1,2 +1,23 @@
 -- Laws of the definitions, for proofs.
-pub mod SheetCallLaws
+pub mod SegmentLaws
+pub mod AnchorLaws
+pub mod Right
+pub mod Shape
+pub mod Counts
+pub mod Invariant
+pub mod Kept
+pub mod Lasting
+pub mod Store
+pub mod StackLaws
+pub mod Standing
+pub mod Steps
+pub mod SoundLaws
+pub mod SoundParts
+pub mod SoundSteps
+pub mod Moves
+pub mod Asking
+pub mod SheetRoom
+pub mod HolderLaws
+pub mod Delivery
+pub mod CallLists
+pub mod RunEnds

@@ -1,18 +1,85 @@
-// The two ends: the highest of the four layers. The holder's and the rebuilder's calls are in crates of their own, because either runs
-// without the other; here they stand together, with the rebuilder's call over a lent sheet of rows.
-mod sheet;
+// The two ends: the highest of the four layers. Here are the states and the sheet's rows; below, by file: the anchor search,
+// the states' steps and soundness, the holder's call, the rebuilder's start and call, and its call over a lent sheet.
+use strings::Settings;
 
-pub use holder::HolderAnswer;
-pub use holder::HolderOut;
-pub use holder::fresh_holder;
-pub use holder::holder_call;
-pub use rebuilder::RebuilderAnswer;
-pub use rebuilder::RebuilderOut;
-pub use rebuilder::StartAnswer;
-pub use rebuilder::StartOut;
-pub use rebuilder::rebuilder_call;
-pub use rebuilder::rebuilder_start;
-pub use sheet::apply_change;
-pub use sheet::clear_rows;
+mod anchors;
+mod answering;
+mod rebuilding;
+mod sheet;
+mod sound;
+mod state;
+mod steps;
+
+pub use anchors::AnchorAnswer;
+pub use anchors::find_anchor;
+pub use answering::HolderAnswer;
+pub use answering::HolderOut;
+pub use answering::fresh_holder;
+pub use answering::holder_call;
+pub use rebuilding::RebuilderAnswer;
+pub use rebuilding::RebuilderOut;
+pub use rebuilding::StartAnswer;
+pub use rebuilding::StartOut;
+pub use rebuilding::rebuilder_call;
+pub use rebuilding::rebuilder_start;
 pub use sheet::rebuilder_call_on_sheet;
-pub use sheet::write_row;
+
+// How a row's piece was settled; specs/Segments.antt has the numbers, 1 to 5 in this order.
+pub enum How {
+    ByHash,
+    ByPutIn,
+    ByTakeOut,
+    ByAnchor,
+    ByBits,
+}
+
+// A row of the sheet: start and length in X, and the number of how.
+pub struct Row {
+    pub start: u32,
+    pub len: u32,
+    pub how: u32,
+}
+
+// A waiting piece: p bits of X from x on, paired with q bits of Y from y on.
+pub struct Piece {
+    pub x: u32,
+    pub p: u32,
+    pub y: u32,
+    pub q: u32,
+}
+
+// The rebuilder's state (docs/STATE.md).
+pub struct Rebuilder {
+    pub settings: Settings,
+    // Y's bit count.
+    pub ybits: u32,
+    // 0: the opening's answer is awaited; 1: an answer for the leftmost waiting piece, or finished if none waits; 2: bits 0, n.
+    pub phase: u32,
+    pub n: u32,
+    // Questions answered, and the bytes of their answers but the opening's.
+    pub answered: u32,
+    pub counted: u32,
+    // Used rows of the sheet.
+    pub rows: u32,
+    // The leftmost piece's: 0 its hash or syndrome is asked for, 1 to 3 an anchor, 4 all its bits.
+    pub stage: u32,
+    // The waiting pieces, the leftmost last, zeros behind it.
+    pub waiting: u32,
+    pub pieces: [Piece; 32],
+}
+
+// What a call of the rebuilder does to the sheet: nothing; a row at an index; or one row in place of the used ones.
+pub enum SheetChange {
+    NoRow,
+    AddRow(u32, Row),
+    OneRow(u32, Row),
+}
+
+// The holder's state: opened 0 or 1, and from the opening on X's bit count, h, key and the answers given.
+pub struct Holder {
+    pub opened: u32,
+    pub bits: u32,
+    pub h: u32,
+    pub key: u32,
+    pub answers: u32,
+}

@@ -5,13 +5,14 @@ ghost use mathlib.Core.List.{[], _∷_};
 ghost use Prim.Native.Nat.{_-_, _≤_, _<_};
 ghost use lib.ListN.{length, replicate};
 ghost use lib.Seq.{sets};
-ghost use Rattle.protocol.specs.RebuilderCall.{noRow, rebuilderCall, sheetAfter, rowsNeeded};
-ghost use Rattle.rebuilder.specs.RebuilderOutcome.{rooms};
+ghost use Rattle.ends.specs.RebuilderCall.{noRow, rebuilderCall, sheetAfter, rowsNeeded};
+ghost use Rattle.ends.specs.RebuilderOutcome.{rooms};
 ghost use Rattle.ends.specs.SheetCall.{saidOnSheet, leavesOnSheet};
-use protocol::Rebuilder;
-use protocol::Row;
-use protocol::SheetChange;
-use rebuilder::RebuilderOut;
+use crate::Rebuilder;
+use crate::Row;
+use crate::SheetChange;
+use crate::rebuilding::RebuilderOut;
+use crate::rebuilding::rebuilder_call;
 
 // A row of zeros.
 fn no_row() -> Row
@@ -74,7 +75,7 @@ pub fn rebuilder_call_on_sheet(
 ) -> RebuilderOut
     ensures { λ r. ⌜ saidOnSheet r (now (sheet .exit)) (now (string .exit)) (now (question .exit)) ≡ leavesOnSheet st (now (sheet .entry)) (now (string .entry)) (now (question .entry)) (rebuilderCall st (now (y .entry)) bits (now (msg .entry)) (rooms (length (now (string .entry))) (length (now (sheet .entry))) (length (now (question .entry))))) ⌝ }
 {
-    let out = rebuilder::rebuilder_call(st, y, bits, msg, sheet.len(), string, question);
+    let out = rebuilder_call(st, y, bits, msg, sheet.len(), string, question);
     let change = out.sheet;
     apply_change(sheet, change);
     out

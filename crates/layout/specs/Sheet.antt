@@ -3,10 +3,10 @@ use mathlib.Core.List.{List, [], _∷_, _++_}
 use Prim.Native.Nat.{ℕ, zero, suc, _+_, _-_, _*_, _/_}
 use lib.ListN.{length, replicate}
 use lib.Seq.{sets}
-use Rattle.protocol.specs.declared.Row.{Row}
-use Rattle.protocol.specs.declared.SheetChange.{SheetChange}
-use Rattle.protocol.specs.declared.SheetChange.the-variants.{NoRow, AddRow, OneRow}
-use Rattle.protocol.specs.RebuilderCall.{noRow}
+use Rattle.ends.specs.declared.Row.{Row}
+use Rattle.ends.specs.declared.SheetChange.{SheetChange}
+use Rattle.ends.specs.declared.SheetChange.the-variants.{NoRow, AddRow, OneRow}
+use Rattle.ends.specs.RebuilderCall.{noRow}
 use Rattle.layout.specs.Bytes32.{wordAt}
 use Rattle.layout.specs.Layout.{allBytes}
 
@@ -30,7 +30,7 @@ rowsAt s at (suc n) = rowAt s at ∷ rowsAt s (at + 12) n
 unfoldable pub rowsIn : List ℕ → List Row
 rowsIn s = rowsAt s 0 (length s / 12)
 
--- what a call's change of the sheet makes of the bytes; protocol's sheetAfter says it of rows
+-- what a call's change of the sheet makes of the bytes; ends' sheetAfter says it of rows
 abbrev pub sheetBytesAfter : List ℕ → SheetChange → List ℕ
 sheetBytesAfter s NoRow = s
 sheetBytesAfter s (AddRow i r) = sets s (12 * i) (rowBytes r)

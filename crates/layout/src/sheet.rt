@@ -4,13 +4,13 @@ ghost use mathlib.Core.Path.{_≡_};
 ghost use Prim.Native.Nat.{_+_, _-_, _*_, _≤_};
 ghost use lib.ListN.{length, replicate};
 ghost use lib.Seq.{sets};
-ghost use Rattle.protocol.specs.RebuilderCall.{noRow, rowsNeeded};
+ghost use Rattle.ends.specs.RebuilderCall.{noRow, rowsNeeded};
 ghost use Rattle.layout.specs.Sheet.{rowAt, rowBytes, rowsBytes, sheetBytesAfter};
 use crate::numbers::read_u32;
 use crate::numbers::write_two;
 use crate::numbers::write_u32;
-use protocol::Row;
-use protocol::SheetChange;
+use ends::Row;
+use ends::SheetChange;
 
 // The row at its index.
 pub fn read_row(sheet: &[u8], index: usize) -> Row

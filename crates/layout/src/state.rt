@@ -4,15 +4,15 @@ ghost use mathlib.Core.List.{[], _++_};
 ghost use Prim.Native.Nat.{_+_, _≤_};
 ghost use lib.ListN.{length, drop, replicate};
 ghost use lib.Seq.{sets};
-ghost use Rattle.protocol.specs.States.{noPiece};
+ghost use Rattle.ends.specs.States.{noPiece};
 ghost use Rattle.layout.specs.Layout.{holderBytes, holderOf, pieceBytes, pieceAt, piecesBytes, fieldBytes, rebuilderBytes, fieldsOf, rebuilderOf};
 use crate::numbers::read_u32;
 use crate::numbers::write_four;
 use crate::numbers::write_u32;
-use protocol::Holder;
-use protocol::Piece;
-use protocol::Rebuilder;
-use protocol::Settings;
+use ends::Holder;
+use ends::Piece;
+use ends::Rebuilder;
+use strings::Settings;
 
 const NO_PIECE: Piece = Piece {
     x: 0,

@@ -9,7 +9,7 @@ ghost use Rattle.lines.specs.Fields.{fieldEnd, field};
 ghost use Rattle.lines.specs.SettingsLine.{isDigit, decimalOf, groupOf, fiveGroups, settingsOf, settingsIn};
 ghost use Rattle.lines.specs.StringLine.{isBit, allBits, bitsOf, leaves, stringInto, stringIn};
 ghost use Rattle.lines.specs.Printing.{Puts, hexDigit, hexOf, decimal, bitByte, bitBytes, messageLine, rowLine, lastLine, refusalLine};
-use protocol::Settings;
+use strings::Settings;
 
 // Where a field of a byte list stands: its first index and the index behind its last; or there is no such field.
 pub enum FieldFound {

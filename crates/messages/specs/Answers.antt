@@ -11,11 +11,11 @@ use Rattle.strings.specs.declared.Refusal.{Refusal}
 use Rattle.strings.specs.declared.Refusal.the-variants.{CutShort, BadKind, LeftOver, OutOfRange}
 use Rattle.messages.specs.declared.Kind.{Kind}
 use Rattle.messages.specs.declared.Kind.the-variants.{Open, Hash, Syndrome, Bits}
-use Rattle.numbers.specs.declared.NumberRead.{NumberRead}
-use Rattle.numbers.specs.declared.NumberRead.the-variants.{Value, NoNumber}
+use Rattle.messages.specs.declared.numbers.NumberRead.{NumberRead}
+use Rattle.messages.specs.declared.numbers.NumberRead.the-variants.{Value, NoNumber}
 use Rattle.messages.specs.declared.AnswerRead.{AnswerRead}
 use Rattle.messages.specs.declared.AnswerRead.the-variants.{IsSize, IsHash, IsSyndrome, IsBits, NoAnswer}
-use Rattle.numbers.specs.Numbers.{number, numberAt}
+use Rattle.messages.specs.Numbers.{number, numberAt}
 use Rattle.messages.specs.Kinds.{kindNumber}
 
 -- an answer's value: n; a hash; a syndrome and a hash; bits

@@ -5,11 +5,11 @@ use Prim.Native.Nat.{ℕ, zero, suc}
 use Rattle.strings.specs.declared.Refusal.the-variants.{BadKind}
 use Rattle.messages.specs.declared.Kind.{Kind}
 use Rattle.messages.specs.declared.Kind.the-variants.{Open, Hash, Syndrome, Bits}
-use Rattle.numbers.specs.declared.NumberRead.{NumberRead}
-use Rattle.numbers.specs.declared.NumberRead.the-variants.{Value, NoNumber}
+use Rattle.messages.specs.declared.numbers.NumberRead.{NumberRead}
+use Rattle.messages.specs.declared.numbers.NumberRead.the-variants.{Value, NoNumber}
 use Rattle.messages.specs.declared.KindRead.{KindRead}
 use Rattle.messages.specs.declared.KindRead.the-variants.{Known, NoKind}
-use Rattle.numbers.specs.Numbers.{numberAt}
+use Rattle.messages.specs.Numbers.{numberAt}
 
 abbrev pub kindNumber : Kind → ℕ
 kindNumber Open = 0

@@ -1,4 +1,5 @@
 -- What a reader must believe of messages (Numbers, Kinds, Questions, Answers), and the laws of it.
+pub mod Numbers
 pub mod Kinds
 pub mod Questions
 pub mod Answers

@@ -1,4 +1,5 @@
 -- Laws of the definitions, for proofs.
+pub mod NumberLaws
 pub mod KindLaws
 pub mod QuestionLaws
 pub mod AnswerLaws

@@ -10,12 +10,12 @@ use crate::AnswerRead;
 use crate::Kind;
 use crate::WriteResult;
 use crate::kinds::kind_number;
+use crate::numbers::NumberRead;
+use crate::numbers::put_number;
+use crate::reading::next_number;
 use crate::writing::put_bits;
 use crate::writing::write_one;
 use crate::writing::write_two;
-use numbers::NumberRead;
-use numbers::next_number;
-use numbers::put_number;
 use strings::Refusal;
 
 // The answer to an opening: n.

@@ -3,8 +3,8 @@ ghost use mathlib.Core.Path.{_≡_};
 ghost use Rattle.messages.specs.Kinds.{kindNumber, kindAt};
 use crate::Kind;
 use crate::KindRead;
-use numbers::NumberRead;
-use numbers::next_number;
+use crate::numbers::NumberRead;
+use crate::reading::next_number;
 use strings::Refusal;
 
 // The number of a kind.

@@ -5,7 +5,9 @@ use strings::Refusal;
 
 mod answers;
 mod kinds;
+mod numbers;
 mod questions;
+mod reading;
 mod writing;
 
 pub use answers::read_answer;
@@ -14,11 +16,6 @@ pub use answers::write_hash;
 pub use answers::write_size;
 pub use answers::write_syndrome;
 pub use kinds::read_kind;
-pub use numbers::NumberRead;
-pub use numbers::Reader;
-pub use numbers::read_next;
-pub use numbers::read_number;
-pub use numbers::reader_at;
 pub use questions::read_fields;
 pub use questions::write_question;
 

@@ -1,18 +1,18 @@
 // Questions: written by a rebuilder, read by a holder.
 ghost use mathlib.Core.Path.{_≡_};
 ghost use mathlib.Core.List.{_++_};
-ghost use Rattle.numbers.specs.Numbers.{number};
+ghost use Rattle.messages.specs.Numbers.{number};
 ghost use Rattle.messages.specs.Questions.{questionBytes, asking, openingIn, openingAt, rangeIn, rangeAt, fieldsAt};
 ghost use Rattle.messages.specs.Writing.{leaves, putFront};
 use crate::Kind;
 use crate::Question;
 use crate::QuestionRead;
 use crate::WriteResult;
+use crate::numbers::NumberRead;
+use crate::numbers::number_size;
+use crate::numbers::put_number;
+use crate::reading::next_number;
 use crate::writing::write_two;
-use numbers::NumberRead;
-use numbers::next_number;
-use numbers::number_size;
-use numbers::put_number;
 use strings::Refusal;
 
 // The question of a kind with its two fields.

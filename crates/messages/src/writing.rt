@@ -5,14 +5,14 @@ ghost use Prim.Native.Nat.{_+_, _≤_};
 ghost use lib.ListN.{length};
 ghost use lib.Seq.{sets};
 ghost use Rattle.strings.specs.Bits.{range, bytesFor, pack, Part};
-ghost use Rattle.numbers.specs.Numbers.{number};
+ghost use Rattle.messages.specs.Numbers.{number};
 ghost use Rattle.messages.specs.Kinds.{kindNumber};
 ghost use Rattle.messages.specs.Writing.{leaves, putFront};
 use crate::Kind;
 use crate::WriteResult;
 use crate::kinds::kind_number;
-use numbers::number_size;
-use numbers::put_number;
+use crate::numbers::number_size;
+use crate::numbers::put_number;
 
 // The len bits of `x` from bit `start` on, packed as a string, are written at the front.
 fn put_bits_first(x: &[u8], start: usize, len: usize, buf: &mut [u8])

@@ -2,16 +2,16 @@
 // the syndrome and every repair of each string of up to 8 bits, messages and anchor places at the edges that 01 names, and calls that are
 // turned down. The stored file is worked out from document 01 by another program (docs/samples.py).
 ghost use Prim.Native.Nat.{_≤_, _<_};
-use anchors::AnchorAnswer;
 use codes::NumberAnswer;
 use codes::RepairAnswer;
+use ends::AnchorAnswer;
+use ends::Holder;
 use ends::HolderAnswer;
+use ends::Rebuilder;
 use ends::RebuilderAnswer;
 use libc::STDOUT_FILENO;
-use protocol::Holder;
-use protocol::Rebuilder;
-use protocol::Settings;
 use strings::Refusal;
+use strings::Settings;
 
 fn print(text: &[u8]) {
     io::write_all(STDOUT_FILENO, text);
@@ -312,7 +312,7 @@ fn print_place_at(r: u32)
     let at = (r / 8) as usize;
     y[at] = 255u8 >> (r % 8);
     y[at + 1] = ((65280u32 >> (r % 8)) % 256) as u8;
-    print_place(anchors::find_anchor(&y, 66, 0, 66, 64, 28, 8, 1, b"\xff"));
+    print_place(ends::find_anchor(&y, 66, 0, 66, 64, 28, 8, 1, b"\xff"));
 }
 
 // Every place in turn; then 01010101 that stands at 28 and at 30, equally far off.
@@ -324,7 +324,7 @@ fn print_places() {
         r += 1;
     }
     print(b"\n01010101 at 28 and 30:");
-    print_place(anchors::find_anchor(
+    print_place(ends::find_anchor(
         b"\xff\xff\xff\xf5\x57\xff\xff\xff\xc0",
         66,
         0,

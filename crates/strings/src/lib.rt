@@ -1,5 +1,5 @@
-// Bit strings packed in bytes: the lowest of the four layers. First bit in the most significant place. Functions on a bit or a range
-// require that it lies in the string: the layers above know this, and a test at each bit would be for nothing.
+// Bit strings packed in bytes, and the settings: the lowest of the four layers. First bit in the most significant place. Functions on a bit
+// or a range require that it lies in the string: the layers above know this, and a test at each bit would be for nothing.
 ghost use mathlib.Core.Path.{_≡_};
 ghost use mathlib.Core.Bool.{true, false};
 ghost use Prim.Native.Nat.{_+_, _*_, _≤_, _<_};
@@ -7,6 +7,12 @@ ghost use lib.ListN.{length};
 ghost use Rattle.strings.specs.Bits.{bitAt, range, setBit, writeBits, sameBits, cleared, Part, Eight};
 ghost use Rattle.strings.specs.StringRule.{stringRule};
 ghost use Rattle.strings.specs.Refusals.{refusalNumber};
+
+mod settings;
+
+pub use settings::Settings;
+pub use settings::both;
+pub use settings::is_between;
 
 // Why a call is turned down (01, "Why a call is turned down"). specs/Refusals.antt has the numbers, 1 to 9 in this order.
 pub enum Refusal {

@@ -2,7 +2,7 @@ use mathlib.Core.Path.{_≡_, sym, ap, _∙_}
 use mathlib.Core.Bool.{true}
 use borrow.Author.Tests.{not-true, not-false}
 use Rattle.strings.specs.StringRule.{stringRule}
-use Rattle.rebuilder.specs.RebuilderOutcome.{callSaid}
+use Rattle.ends.specs.RebuilderOutcome.{callSaid}
 use Rattle.cabi.specs.laws.RebuilderBytesLaws.{call-bad-string, call-no-state, RebuilderCalled, call-rows, call-small, call-declined, call-taken}
 use borrow.Author.Needs.{needs}
 use Rattle.cabi.proofs.lo_rebuilder_call.Statement.{statement}

@@ -3,7 +3,7 @@ use mathlib.Core.Bool.{true}
 use native.Mathlib.Omega.{arith}
 use borrow.Author.Tests.{not-true, not-false}
 use Rattle.strings.specs.StringRule.{stringRule}
-use Rattle.protocol.specs.Limits.{withinLimits}
+use Rattle.strings.specs.SettingLimits.{withinLimits}
 use Rattle.cabi.specs.laws.RebuilderBytesLaws.{start-bad-setting, start-bad-string, start-short, StartCalled, start-small, start-declined, start-begun}
 use borrow.Author.Needs.{needs}
 use Rattle.cabi.proofs.lo_rebuilder_start.Statement.{statement}

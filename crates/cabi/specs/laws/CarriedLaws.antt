@@ -14,18 +14,18 @@ use Rattle.strings.specs.StringRule.{stringRule}
 use Rattle.strings.specs.laws.RuleLaws.{rule-is}
 use Rattle.strings.specs.laws.Tests.{and-left, and-right, by-test}
 use Rattle.strings.specs.declared.Refusal.the-variants.{BadSetting, BadString, OutOfTurn, NoRoom}
-use Rattle.protocol.specs.declared.Settings.{Settings}
-use Rattle.protocol.specs.declared.Piece.{Piece}
-use Rattle.protocol.specs.declared.Rebuilder.{Rebuilder}
-use Rattle.protocol.specs.Limits.{withinLimits}
-use Rattle.protocol.specs.States.{noPiece, held}
-use Rattle.protocol.specs.Soundness.{sound, wholeSound, phaseSound}
-use Rattle.protocol.specs.laws.SoundLaws.{Ordered}
-use Rattle.protocol.specs.laws.SoundParts.{top-most, Framed, sound-is, OpeningIs, opening-is, PiecesIs, pieces-is, WholeIs, whole-is}
-use Rattle.protocol.specs.laws.SoundSteps.{fresh-sound}
-use Rattle.protocol.specs.RebuilderCall.{starts, unlessStarted, rebuilderStart, freshRebuilder, takes, unlessTaken, Step, Rooms, rebuilderCall}
-use Rattle.protocol.specs.laws.Asking.{unless-taken, call-sound}
-use Rattle.protocol.specs.laws.Delivery.{unless-started, started-is}
+use Rattle.strings.specs.declared.settings.Settings.{Settings}
+use Rattle.ends.specs.declared.Piece.{Piece}
+use Rattle.ends.specs.declared.Rebuilder.{Rebuilder}
+use Rattle.strings.specs.SettingLimits.{withinLimits}
+use Rattle.ends.specs.States.{noPiece, held}
+use Rattle.ends.specs.Soundness.{sound, wholeSound, phaseSound}
+use Rattle.ends.specs.laws.SoundLaws.{Ordered}
+use Rattle.ends.specs.laws.SoundParts.{top-most, Framed, sound-is, OpeningIs, opening-is, PiecesIs, pieces-is, WholeIs, whole-is}
+use Rattle.ends.specs.laws.SoundSteps.{fresh-sound}
+use Rattle.ends.specs.RebuilderCall.{starts, unlessStarted, rebuilderStart, freshRebuilder, takes, unlessTaken, Step, Rooms, rebuilderCall}
+use Rattle.ends.specs.laws.Asking.{unless-taken, call-sound}
+use Rattle.ends.specs.laws.Delivery.{unless-started, started-is}
 use Rattle.layout.specs.Layout.{rebuilderBytes, rebuilderOf}
 use Rattle.layout.specs.laws.LayoutLaws.{PieceFits, RebuilderFits, rebuilder-read, rebuilder-back, rebuilder-pieces}
 use Rattle.cabi.specs.Calls.{startOnBytes, rebuilderOnBytes}

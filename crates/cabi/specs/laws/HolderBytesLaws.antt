@@ -20,18 +20,18 @@ use Rattle.codes.specs.Entries.{refusal, value}
 use Rattle.messages.specs.declared.Question.{Question}
 use Rattle.messages.specs.declared.Question.the-variants.{AskOpen, AskHash, AskSyndrome, AskBits}
 use Rattle.messages.specs.laws.QuestionLaws.{keyOf, fields-form}
-use Rattle.numbers.specs.Numbers.{number}
-use Rattle.numbers.specs.laws.NumberLaws.{size-most}
+use Rattle.messages.specs.Numbers.{number}
+use Rattle.messages.specs.laws.NumberLaws.{size-most}
 use Rattle.messages.specs.Answers.{syndromeAnswer, answerBytes}
 use Rattle.messages.specs.laws.AnswerLaws.{answer-size, size-answer-most, hash-answer-most, bits-answer-size}
-use Rattle.protocol.specs.declared.Holder.{Holder}
-use Rattle.protocol.specs.Anchors.{part}
-use Rattle.protocol.specs.Runs.{answer}
-use Rattle.protocol.specs.HolderCall.{Heard, declines, replies, unlessHeard, holderCall, freshHolder}
-use Rattle.protocol.specs.laws.HolderLaws.{unless-heard, heard-call, Made, opens, counts, heard-made, holder-sound}
-use Rattle.holder.specs.declared.HolderAnswer.the-variants.{Replied, Refused}
-use Rattle.holder.specs.declared.HolderOut.{HolderOut}
-use Rattle.holder.specs.HolderOutcome.{HolderSaid, answerSaid, saidHolder, leavesHolder}
+use Rattle.ends.specs.declared.Holder.{Holder}
+use Rattle.ends.specs.Anchors.{part}
+use Rattle.ends.specs.Runs.{answer}
+use Rattle.ends.specs.HolderCall.{Heard, declines, replies, unlessHeard, holderCall, freshHolder}
+use Rattle.ends.specs.laws.HolderLaws.{unless-heard, heard-call, Made, opens, counts, heard-made, holder-sound}
+use Rattle.ends.specs.declared.answering.HolderAnswer.the-variants.{Replied, Refused}
+use Rattle.ends.specs.declared.answering.HolderOut.{HolderOut}
+use Rattle.ends.specs.HolderOutcome.{HolderSaid, answerSaid, saidHolder, leavesHolder}
 use Rattle.layout.specs.Layout.{holderBytes, holderOf}
 use Rattle.layout.specs.laws.LayoutLaws.{holder-back, holder-fits, length-holder}
 use Rattle.cabi.specs.Packing.{packed}

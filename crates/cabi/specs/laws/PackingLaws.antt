@@ -7,10 +7,10 @@ use native.Mathlib.Omega.{arith}
 use Rattle.codes.specs.Entries.{Answer, refusal, value, saidRepair}
 use Rattle.codes.specs.declared.entries.RepairAnswer.{RepairAnswer}
 use Rattle.codes.specs.declared.entries.RepairAnswer.the-variants.{Done, Nothing, Refused}
-use Rattle.anchors.specs.AnchorSearch.{anchorSearch, saidAnchor}
-use Rattle.anchors.specs.laws.AnchorSearchLaws.{AnswerMost, search-most}
-use Rattle.anchors.specs.declared.AnchorAnswer.{AnchorAnswer}
-use Rattle.anchors.specs.declared.AnchorAnswer.the-variants.{Placed}
+use Rattle.ends.specs.AnchorSearch.{anchorSearch, saidAnchor}
+use Rattle.ends.specs.code.AnchorSearchLaws.{AnswerMost, search-most}
+use Rattle.ends.specs.declared.anchors.AnchorAnswer.{AnchorAnswer}
+use Rattle.ends.specs.declared.anchors.AnchorAnswer.the-variants.{Placed}
 use Rattle.cabi.specs.Packing.{packed, numbered, placeNumber}
 
 -- ---- the host's side: the low four bits are the refusal, the rest is the value

@@ -14,25 +14,25 @@ use Rattle.strings.specs.declared.Refusal.{Refusal}
 use Rattle.codes.specs.Entries.{refusal, value}
 use Rattle.messages.specs.declared.Question.{Question}
 use Rattle.messages.specs.declared.Question.the-variants.{AskOpen, AskHash, AskSyndrome, AskBits}
-use Rattle.numbers.specs.Numbers.{number}
-use Rattle.numbers.specs.laws.NumberLaws.{size-most}
+use Rattle.messages.specs.Numbers.{number}
+use Rattle.messages.specs.laws.NumberLaws.{size-most}
 use Rattle.messages.specs.Kinds.{kindNumber}
 use Rattle.messages.specs.laws.KindLaws.{kind-size}
 use Rattle.messages.specs.Questions.{questionKind, questionBytes}
 use Rattle.messages.specs.laws.QuestionLaws.{fieldBytes, question-parts}
-use Rattle.protocol.specs.declared.Settings.{Settings}
-use Rattle.protocol.specs.declared.Rebuilder.{Rebuilder}
-use Rattle.protocol.specs.Limits.{withinLimits}
-use Rattle.protocol.specs.States.{planned}
-use Rattle.protocol.specs.RebuilderCall.{Started, startDeclines, starts, rebuilderStart, Taken, refuses, takes, Step, Rooms, rebuilderCall, writtenQuestion, stepOf, stringAfter, rowsNeeded}
-use Rattle.protocol.specs.laws.Asking.{TakenCall, taken-call}
-use Rattle.protocol.specs.laws.Delivery.{started-is}
-use Rattle.rebuilder.specs.declared.StartAnswer.the-variants.{Begun, NotBegun}
-use Rattle.rebuilder.specs.declared.StartOut.{StartOut}
-use Rattle.rebuilder.specs.declared.RebuilderAnswer.the-variants.{Refused}
-use Rattle.rebuilder.specs.declared.RebuilderOut.{RebuilderOut}
-use Rattle.rebuilder.specs.RebuilderOutcome.{startSaid, StartSaid, saidStart, leavesStart, callSaid, RebuilderSaid, saidRebuilder, nextSize, leavesRebuilder}
-use Rattle.ends.specs.laws.SheetCallLaws.{change-fits}
+use Rattle.strings.specs.declared.settings.Settings.{Settings}
+use Rattle.ends.specs.declared.Rebuilder.{Rebuilder}
+use Rattle.strings.specs.SettingLimits.{withinLimits}
+use Rattle.ends.specs.States.{planned}
+use Rattle.ends.specs.RebuilderCall.{Started, startDeclines, starts, rebuilderStart, Taken, refuses, takes, Step, Rooms, rebuilderCall, writtenQuestion, stepOf, stringAfter, rowsNeeded}
+use Rattle.ends.specs.laws.Asking.{TakenCall, taken-call}
+use Rattle.ends.specs.laws.Delivery.{started-is}
+use Rattle.ends.specs.declared.rebuilding.StartAnswer.the-variants.{Begun, NotBegun}
+use Rattle.ends.specs.declared.rebuilding.StartOut.{StartOut}
+use Rattle.ends.specs.declared.rebuilding.RebuilderAnswer.the-variants.{Refused}
+use Rattle.ends.specs.declared.rebuilding.RebuilderOut.{RebuilderOut}
+use Rattle.ends.specs.RebuilderOutcome.{startSaid, StartSaid, saidStart, leavesStart, callSaid, RebuilderSaid, saidRebuilder, nextSize, leavesRebuilder}
+use Rattle.ends.specs.code.SheetCallLaws.{change-fits}
 use Rattle.layout.specs.Layout.{rebuilderBytes, rebuilderOf}
 use Rattle.layout.specs.laws.LayoutLaws.{length-rebuilder}
 use Rattle.layout.specs.Sheet.{sheetBytesAfter}

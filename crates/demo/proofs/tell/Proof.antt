@@ -1,5 +1,5 @@
 -- `demo::tell` is safe and ends, and gives a change that lies in 16,385 rows. Assumes nothing.
-use Rattle.ends.specs.laws.SheetCallLaws.{change-fits}
+use Rattle.ends.specs.code.SheetCallLaws.{change-fits}
 use borrow.Author.Needs.{needs}
 use Rattle.demo.proofs.tell.Statement.{statement}
 use Rattle.demo.proofs.tell.Tie as tie

@@ -7,11 +7,11 @@ use native.Mathlib.Omega.{arith}
 use native.Mathlib.Numerals.{add-one}
 use lib.ListN.{length, getD, set, take, drop, length-append, length-replicate, replicate}
 use lib.Seq.{sets, drop-cons, take-all}
-use Rattle.protocol.specs.declared.Settings.{Settings}
-use Rattle.protocol.specs.declared.Holder.{Holder}
-use Rattle.protocol.specs.declared.Piece.{Piece}
-use Rattle.protocol.specs.declared.Rebuilder.{Rebuilder}
-use Rattle.protocol.specs.States.{noPiece}
+use Rattle.strings.specs.declared.settings.Settings.{Settings}
+use Rattle.ends.specs.declared.Holder.{Holder}
+use Rattle.ends.specs.declared.Piece.{Piece}
+use Rattle.ends.specs.declared.Rebuilder.{Rebuilder}
+use Rattle.ends.specs.States.{noPiece}
 use Rattle.layout.specs.Bytes32.{bytesOf, wordAt}
 use Rattle.layout.specs.Layout.{allBytes, holderBytes, holderOf, pieceBytes, pieceAt, piecesBytes, piecesAt, fieldBytes, rebuilderBytes, fieldsOf, rebuilderOf}
 use Rattle.strings.specs.laws.StoreLaws.{sets-append, sets-front}

@@ -7,10 +7,10 @@ use native.Mathlib.Omega.{arith}
 use lib.ListN.{length, set, replicate, length-replicate, replicate-append-replicate}
 use lib.Seq.{sets, length-sets}
 use Rattle.strings.specs.Bits.{zeroBytes, cleared}
-use Rattle.protocol.specs.declared.Row.{Row}
-use Rattle.protocol.specs.declared.SheetChange.{SheetChange}
-use Rattle.protocol.specs.declared.SheetChange.the-variants.{NoRow, AddRow, OneRow}
-use Rattle.protocol.specs.RebuilderCall.{noRow, sheetAfter, rowsNeeded}
+use Rattle.ends.specs.declared.Row.{Row}
+use Rattle.ends.specs.declared.SheetChange.{SheetChange}
+use Rattle.ends.specs.declared.SheetChange.the-variants.{NoRow, AddRow, OneRow}
+use Rattle.ends.specs.RebuilderCall.{noRow, sheetAfter, rowsNeeded}
 use Rattle.layout.specs.Bytes32.{bytesOf, wordAt}
 use Rattle.layout.specs.Layout.{allBytes}
 use Rattle.layout.specs.Sheet.{rowBytes, rowsBytes, rowAt, rowsAt, rowsIn, sheetBytesAfter}

@@ -10,11 +10,11 @@ use Rattle.strings.specs.declared.Refusal.{Refusal}
 use Rattle.strings.specs.declared.Refusal.the-variants.{BadKind}
 use Rattle.messages.specs.declared.Kind.{Kind}
 use Rattle.messages.specs.declared.Kind.the-variants.{Open, Hash, Syndrome, Bits}
-use Rattle.numbers.specs.declared.NumberRead.{NumberRead}
-use Rattle.numbers.specs.declared.NumberRead.the-variants.{Value, NoNumber}
+use Rattle.messages.specs.declared.numbers.NumberRead.{NumberRead}
+use Rattle.messages.specs.declared.numbers.NumberRead.the-variants.{Value, NoNumber}
 use Rattle.messages.specs.declared.KindRead.the-variants.{Known, NoKind}
-use Rattle.numbers.specs.Numbers.{number, numberAt}
-use Rattle.numbers.specs.laws.NumberLaws.{number-reads, number-form, size-last}
+use Rattle.messages.specs.Numbers.{number, numberAt}
+use Rattle.messages.specs.laws.NumberLaws.{number-reads, number-form, size-last}
 use Rattle.messages.specs.Kinds.{kindNumber, kindOf, knownKind, kindRead, kindAt}
 
 pub kind-most : (k : Kind) → kindNumber k ≤ 3

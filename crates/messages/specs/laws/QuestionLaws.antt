@@ -14,16 +14,16 @@ use Rattle.strings.specs.laws.PackLaws.{Bytes}
 use Rattle.strings.specs.declared.Refusal.{Refusal}
 use Rattle.messages.specs.declared.Kind.{Kind}
 use Rattle.messages.specs.declared.Kind.the-variants.{Open, Hash, Syndrome, Bits}
-use Rattle.numbers.specs.declared.NumberRead.{NumberRead}
-use Rattle.numbers.specs.declared.NumberRead.the-variants.{Value, NoNumber}
+use Rattle.messages.specs.declared.numbers.NumberRead.{NumberRead}
+use Rattle.messages.specs.declared.numbers.NumberRead.the-variants.{Value, NoNumber}
 use Rattle.messages.specs.declared.KindRead.{KindRead}
 use Rattle.messages.specs.declared.KindRead.the-variants.{Known, NoKind}
 use Rattle.messages.specs.declared.Question.{Question}
 use Rattle.messages.specs.declared.Question.the-variants.{AskOpen, AskHash, AskSyndrome, AskBits}
 use Rattle.messages.specs.declared.QuestionRead.{QuestionRead}
 use Rattle.messages.specs.declared.QuestionRead.the-variants.{Asked, NoQuestion}
-use Rattle.numbers.specs.Numbers.{number, numberAt}
-use Rattle.numbers.specs.laws.NumberLaws.{number-reads, number-reads-last, number-form, number-form-last, drop-past, ends-there, size-last, size-some, size-most, size-short}
+use Rattle.messages.specs.Numbers.{number, numberAt}
+use Rattle.messages.specs.laws.NumberLaws.{number-reads, number-reads-last, number-form, number-form-last, drop-past, ends-there, size-last, size-some, size-most, size-short}
 use Rattle.messages.specs.Kinds.{kindNumber, kindAt}
 use Rattle.messages.specs.laws.KindLaws.{kind-size, kind-reads, kind-form}
 use Rattle.messages.specs.Questions.{questionKind, questionBytes, thenAsk, noQuestionIf, openingAt, rangeAt, fieldsAt, thenFields, readQuestion}

@@ -15,6 +15,12 @@ pub and-right : (a b : Bool) → a && b ≡ true → b ≡ true
 and-right true b e = e
 and-right false b e = absurd (true-false (sym e))
 
+pub both : (a b : Bool) → a && b ≡ true → (a ≡ true) × (b ≡ true)
+both a b e = (and-left a b e, and-right a b e)
+
+pub and-true : (a b : Bool) → a ≡ true → b ≡ true → a && b ≡ true
+and-true a b e f = rw (e, f) refl
+
 -- two tests taken together
 pub test-is : {a b a′ b′ t u : Bool} → a ≡ a′ → b ≡ b′ → t ≡ (a && b) → t ≡ u → a′ && b′ ≡ u
 test-is e f g k = ap₂ _&&_ (sym e) (sym f) ∙ sym g ∙ k

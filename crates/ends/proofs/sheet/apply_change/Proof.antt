@@ -42,15 +42,15 @@ use denote.Triple.Table.{entered, cited}
 use denote.Triple.Walked.{says, needs, Stays, stay-slice, stay-none, walkOf, goes-slice, goes-none, Walks, ends-at, walked, walk-meets}
 use denote.Exit.{yes}
 use denote.Signature.{plain}
-use Rattle.protocol.specs.declared.Row.{Row}
-use Rattle.protocol.specs.declared.SheetChange.{SheetChange}
-use Rattle.protocol.specs.declared.SheetChange.the-variants.{NoRow, AddRow, OneRow}
-use Rattle.protocol.specs.RebuilderCall.{sheetAfter, rowsNeeded}
-use Rattle.protocol.proofs.Row as T
-use Rattle.protocol.proofs.Row.Laws as T′
-use Rattle.protocol.proofs.SheetChange as E
-use Rattle.protocol.proofs.SheetChange.Laws as E′
-use Rattle.protocol.specs.laws.Delivery.{sheet-length-after}
+use Rattle.ends.specs.declared.Row.{Row}
+use Rattle.ends.specs.declared.SheetChange.{SheetChange}
+use Rattle.ends.specs.declared.SheetChange.the-variants.{NoRow, AddRow, OneRow}
+use Rattle.ends.specs.RebuilderCall.{sheetAfter, rowsNeeded}
+use Rattle.ends.proofs.Row as T
+use Rattle.ends.proofs.Row.Laws as T′
+use Rattle.ends.proofs.SheetChange as E
+use Rattle.ends.proofs.SheetChange.Laws as E′
+use Rattle.ends.specs.laws.Delivery.{sheet-length-after}
 use Rattle.ends.proofs.LentRows.{WriteRow, ClearRows, write-row-called, write-row-called-last, clear-rows-called-last}
 use Rattle.ends.proofs.Lending.{sheet, Sheet}
 use Rattle.ends.proofs.sheet.write_row.Symbol as write-row-def

@@ -50,11 +50,11 @@ use denote.Triple.Table.{entered, cited}
 use denote.Triple.Walked.{says, needs, Stays, stay-slice, stay-none, walkOf, goes-slice, goes-none, Walks, ends-at, walked, walk-meets}
 use denote.Exit.{yes as always}
 use denote.Signature.{plain}
-use Rattle.protocol.specs.declared.Row.{Row}
-use Rattle.protocol.specs.RebuilderCall.{noRow}
-use Rattle.protocol.proofs.Row as T
-use Rattle.protocol.proofs.Row.Laws as T′
-use Rattle.ends.specs.laws.SheetCallLaws.{ClearedTo, clear-turn, clear-end}
+use Rattle.ends.specs.declared.Row.{Row}
+use Rattle.ends.specs.RebuilderCall.{noRow}
+use Rattle.ends.proofs.Row as T
+use Rattle.ends.proofs.Row.Laws as T′
+use Rattle.ends.specs.code.SheetCallLaws.{ClearedTo, clear-turn, clear-end}
 use Rattle.ends.proofs.LentRows.{WriteRow, write-row-called}
 use Rattle.ends.proofs.Lending.{sheet, Sheet}
 use Rattle.ends.proofs.sheet.no_row as no-row

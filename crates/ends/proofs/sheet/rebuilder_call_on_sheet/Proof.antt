@@ -42,25 +42,25 @@ use denote.Triple.Table.{entered, cited}
 use denote.Triple.Walked.{says, Stays, stay-none, stay-none-slice, gave-slice, walkOf, goes-none, goes-none-slice, goes-gave-slice, Walks, ends-at, walked, walk-meets}
 use denote.Exit.{yes}
 use denote.Signature.{plain}
-use Rattle.protocol.specs.declared.Row.{Row}
-use Rattle.protocol.specs.declared.Rebuilder.{Rebuilder}
-use Rattle.protocol.specs.declared.SheetChange.{SheetChange}
-use Rattle.protocol.specs.RebuilderCall.{rebuilderCall, sheetAfter, rowsNeeded}
-use Rattle.protocol.proofs.Row as T
-use Rattle.protocol.proofs.Rebuilder as R
-use Rattle.protocol.proofs.Rebuilder.Laws as R′
-use Rattle.protocol.proofs.SheetChange as E
-use Rattle.protocol.proofs.SheetChange.Laws as E′
-use Rattle.rebuilder.specs.declared.RebuilderOut.{RebuilderOut}
-use Rattle.rebuilder.specs.RebuilderOutcome.{saidRebuilder, leavesRebuilder, rooms}
-use Rattle.ends.specs.laws.SheetCallLaws.{change-fits, left-on-sheet}
-use Rattle.protocol.specs.laws.Delivery.{sheet-length-after}
-use Rattle.rebuilder.proofs.RebuilderOut as O
-use Rattle.rebuilder.proofs.RebuilderOut.Laws as O′
-use Rattle.rebuilder.proofs.rebuilder_call as core
-use Rattle.rebuilder.proofs.rebuilder_call.Symbol as core-def
-use Rattle.rebuilder.proofs.rebuilder_call.Symbol.{name as #rebuilder·rebuilder-call}
-use Rattle.rebuilder.proofs.rebuilder_call.Met as core-thm
+use Rattle.ends.specs.declared.Row.{Row}
+use Rattle.ends.specs.declared.Rebuilder.{Rebuilder}
+use Rattle.ends.specs.declared.SheetChange.{SheetChange}
+use Rattle.ends.specs.RebuilderCall.{rebuilderCall, sheetAfter, rowsNeeded}
+use Rattle.ends.proofs.Row as T
+use Rattle.ends.proofs.Rebuilder as R
+use Rattle.ends.proofs.Rebuilder.Laws as R′
+use Rattle.ends.proofs.SheetChange as E
+use Rattle.ends.proofs.SheetChange.Laws as E′
+use Rattle.ends.specs.declared.rebuilding.RebuilderOut.{RebuilderOut}
+use Rattle.ends.specs.RebuilderOutcome.{saidRebuilder, leavesRebuilder, rooms}
+use Rattle.ends.specs.code.SheetCallLaws.{change-fits, left-on-sheet}
+use Rattle.ends.specs.laws.Delivery.{sheet-length-after}
+use Rattle.ends.proofs.rebuilding.RebuilderOut as O
+use Rattle.ends.proofs.rebuilding.RebuilderOut.Laws as O′
+use Rattle.ends.proofs.rebuilding.rebuilder_call as core
+use Rattle.ends.proofs.rebuilding.rebuilder_call.Symbol as core-def
+use Rattle.ends.proofs.rebuilding.rebuilder_call.Symbol.{name as #ends·rebuilder-call}
+use Rattle.ends.proofs.rebuilding.rebuilder_call.Met as core-thm
 use Rattle.ends.proofs.sheet.apply_change as apply-change
 use Rattle.ends.proofs.sheet.apply_change.Symbol as apply-change-def
 use Rattle.ends.proofs.sheet.apply_change.Symbol.{name as #ends·apply-change}
@@ -228,7 +228,7 @@ module _ {M : Type 1} (𝓤 : URA M) (H : Heap 𝓤) (A : Atoms 𝓤) (W : Given
         owned ! R.the-row (Is R.the-row) (SL.makes R.the-type R′.the-plain 𝓤 H A) st _ st-is $ fjoin ! $
         owned ! O.the-row (Is O.the-row) (SL.makes O.the-type O′.the-plain 𝓤 H A) r _ is $ move ! (1 ∷ 0 ∷ []) $ done !
 
-  module _ (C : Calls 𝓤 H) (Λ : Loops 𝓤 H) (fm : FmC 𝓤 H (W .laws) C) (known-core : Triple 𝓤 (C #rebuilder·rebuilder-call) (Core 𝓤 H A mem run)) (known-apply : Triple 𝓤 (C #ends·apply-change) (ApplyChange 𝓤 H A mem run))
+  module _ (C : Calls 𝓤 H) (Λ : Loops 𝓤 H) (fm : FmC 𝓤 H (W .laws) C) (known-core : Triple 𝓤 (C #ends·rebuilder-call) (Core 𝓤 H A mem run)) (known-apply : Triple 𝓤 (C #ends·apply-change) (ApplyChange 𝓤 H A mem run))
       (l₀ l₁ l₂ l₃ l₄ l₅ l₆ l₇ l₈ l₉ l₁₀ l₁₁ l₁₂ l₁₃ l₁₄ l₁₅ l₁₆ l₁₇ : ℕ) where
     -- the locals: the result; the parameters; out and change; the sheet's length; string, question lent again; apply_change's (), and the sheet lent again
     abbrev En : Env 𝓤 H
@@ -291,7 +291,7 @@ module _ {M : Type 1} (𝓤 : URA M) (H : Heap 𝓤) (A : Atoms 𝓤) (W : Given
         forget ! 21 refl $ forget ! 19 refl $ forget ! 17 refl $ forget ! 15 refl $ forget ! 13 refl $
         applies r (ws .1 .1 .1 .1 .1 .0) (ws .1 .1 .1 .1 .1 .1 .0) said (subst (λ (vs : List Val). Is O.the-row r vs) (SL.tells O.the-type O′.the-laws r (w ∷ []) is) is) string-same question-same)))))))
 
-  module _ (C : Calls 𝓤 H) (Λ : Loops 𝓤 H) (fm : FmC 𝓤 H (W .laws) C) (known-core : Triple 𝓤 (C #rebuilder·rebuilder-call) (Core 𝓤 H A mem run)) (known-apply : Triple 𝓤 (C #ends·apply-change) (ApplyChange 𝓤 H A mem run)) where
+  module _ (C : Calls 𝓤 H) (Λ : Loops 𝓤 H) (fm : FmC 𝓤 H (W .laws) C) (known-core : Triple 𝓤 (C #ends·rebuilder-call) (Core 𝓤 H A mem run)) (known-apply : Triple 𝓤 (C #ends·apply-change) (ApplyChange 𝓤 H A mem run)) where
     abbrev flat : List Val
     flat = st-val ∷ sliceVal y-at (length y) ∷ vint w64 bits ∷ sliceVal msg-at (length msg) ∷ s ∷ sliceVal string-at (length string) ∷ sliceVal question-at (length question) ∷ []
 
@@ -303,7 +303,7 @@ module _ {M : Type 1} (𝓤 : URA M) (H : Heap 𝓤) (A : Atoms 𝓤) (W : Given
         move ! (36 ∷ 37 ∷ 38 ∷ 39 ∷ 40 ∷ []) $ runs-through C Λ fm known-core known-apply l₀ l₁ l₂ l₃ l₄ l₅ l₆ l₇ l₈ l₉ l₁₀ l₁₁ l₁₂ l₁₃ l₁₄ l₁₅ l₁₆ l₁₇)))))))))))))))))))
 
 module _ {M : Type 1} (𝓤 : URA M) (H : Heap 𝓤) (A : Atoms 𝓤) (W : Given 𝓤 H A) (mem : Memory → SProp 𝓤) (run : Routine → Fun 𝓤) (𝓣 : Tables 𝓤 H)
-    (known-core : Triple 𝓤 (𝓣 .C #rebuilder·rebuilder-call) (Core 𝓤 H A mem run)) (known-apply : Triple 𝓤 (𝓣 .C #ends·apply-change) (ApplyChange 𝓤 H A mem run)) where
+    (known-core : Triple 𝓤 (𝓣 .C #ends·rebuilder-call) (Core 𝓤 H A mem run)) (known-apply : Triple 𝓤 (𝓣 .C #ends·apply-change) (ApplyChange 𝓤 H A mem run)) where
   on-sheet-walks : Walks 𝓤 H A on-sheet.ended stayed (WpFn 𝓤 H (𝓣 .C) (𝓣 .Λ) code.function) (on-sheet.clauses 𝓤 H A mem run)
   on-sheet-walks = walked 𝓤 H A on-sheet.ended stayed (on-sheet.clauses 𝓤 H A mem run) (WpFn 𝓤 H (𝓣 .C) (𝓣 .Λ) code.function)
       (λ κs. (SL.vals R.the-type R′.the-laws, (slice-vals, (uint-vals w64, (slice-vals, (slice-vals, (slice-vals, (slice-vals, tt))))))))
@@ -353,5 +353,5 @@ rebuilder-call-on-sheet-spec 𝓤 H 𝓜 𝓖 𝓡 =
     entered 𝓤 H (tripleOf 𝓤 H (𝓖 .A) on-sheet.signature (on-sheet.spec 𝓤 H (𝓖 .A) (𝓜 .mem) (𝓡 .run)))
     (tables 𝓤 H 𝓜 𝓡 code.env .C) (tables 𝓤 H 𝓜 𝓡 code.env .Λ) #ends·rebuilder-call-on-sheet code.function (code.unfolded 𝓤 H 𝓜 𝓡)
     (on-sheet-meets 𝓤 H (𝓖 .A) (givenOf 𝓤 H 𝓜 𝓖) (𝓜 .mem) (𝓡 .run) (tablesOf 𝓤 H 𝓜 (tables 𝓤 H 𝓜 𝓡 code.env))
-    (cited 𝓤 H (Core 𝓤 H (𝓖 .A) (𝓜 .mem) (𝓡 .run)) 𝓜 𝓡 code.env #rebuilder·rebuilder-call core-def.routine code.calls-rebuilder·rebuilder-call (core-thm.met 𝓤 H 𝓜 𝓖 𝓡))
+    (cited 𝓤 H (Core 𝓤 H (𝓖 .A) (𝓜 .mem) (𝓡 .run)) 𝓜 𝓡 code.env #ends·rebuilder-call core-def.routine code.calls-ends·rebuilding·rebuilder-call (core-thm.met 𝓤 H 𝓜 𝓖 𝓡))
     (cited 𝓤 H (ApplyChange 𝓤 H (𝓖 .A) (𝓜 .mem) (𝓡 .run)) 𝓜 𝓡 code.env #ends·apply-change apply-change-def.routine code.calls-ends·sheet·apply-change (apply-change-thm.met 𝓤 H 𝓜 𝓖 𝓡)))

@@ -38,9 +38,9 @@ use denote.Triple.Walked.{says, needs, Stays, stay-slice, stay-none, walkOf, goe
 use denote.Exit.{yes}
 use denote.Signature.{plain}
 use borrow.Author.Needs.{scaled-fits}
-use Rattle.protocol.specs.declared.Row.{Row}
-use Rattle.protocol.proofs.Row as T
-use Rattle.protocol.proofs.Row.Laws as T′
+use Rattle.ends.specs.declared.Row.{Row}
+use Rattle.ends.proofs.Row as T
+use Rattle.ends.proofs.Row.Laws as T′
 use Rattle.ends.proofs.sheet.write_row.Key.{name as #ends·write-row}
 use Rattle.ends.proofs.sheet.write_row as write-row
 use Rattle.ends.proofs.sheet.write_row.Statement as stated

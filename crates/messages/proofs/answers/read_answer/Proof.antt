@@ -1,7 +1,7 @@
 use mathlib.Core.Path.{_≡_, refl, sym, _∙_}
-use Rattle.numbers.specs.declared.NumberRead.the-variants.{Value}
-use Rattle.numbers.specs.Numbers.{numberAt}
-use Rattle.numbers.specs.laws.NumberLaws.{number-inside}
+use Rattle.messages.specs.declared.numbers.NumberRead.the-variants.{Value}
+use Rattle.messages.specs.Numbers.{numberAt}
+use Rattle.messages.specs.laws.NumberLaws.{number-inside}
 use Rattle.messages.specs.declared.Kind.{Kind}
 use Rattle.messages.specs.declared.AnswerRead.{AnswerRead}
 use Rattle.messages.specs.Answers.{answerFields, readAnswer}

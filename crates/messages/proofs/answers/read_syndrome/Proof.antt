@@ -3,7 +3,7 @@ use Prim.Native.Nat.{_^_}
 use lib.ListN.{length}
 use lib.Dec.{leb}
 use Rattle.strings.specs.declared.Refusal.the-variants.{OutOfRange}
-use Rattle.numbers.specs.Numbers.{numberAt}
+use Rattle.messages.specs.Numbers.{numberAt}
 use Rattle.messages.specs.declared.AnswerRead.the-variants.{IsSyndrome}
 use Rattle.messages.specs.Answers.{thenAnswer, noAnswerIf, syndromeAt}
 use borrow.Author.Tests.{le-ltb, lt-ltb}

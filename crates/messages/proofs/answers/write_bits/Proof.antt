@@ -2,8 +2,8 @@ use native.Mathlib.Omega.{arith}
 use Rattle.strings.specs.Bits.{range, pack}
 use Rattle.strings.specs.laws.RangeLaws.{range-length}
 use Rattle.strings.specs.laws.PackLaws.{length-pack}
-use Rattle.numbers.specs.Numbers.{number}
-use Rattle.numbers.specs.laws.NumberLaws.{size-last}
+use Rattle.messages.specs.Numbers.{number}
+use Rattle.messages.specs.laws.NumberLaws.{size-last}
 use Rattle.messages.specs.Answers.{answerBytes}
 use Rattle.messages.specs.laws.WritingLaws.{two-short, two-whole}
 use borrow.Author.Needs.{needs}

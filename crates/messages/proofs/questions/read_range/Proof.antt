@@ -1,6 +1,6 @@
 use mathlib.Core.Path.{_≡_, refl, sym, _∙_}
 use lib.ListN.{length}
-use Rattle.numbers.specs.Numbers.{numberAt}
+use Rattle.messages.specs.Numbers.{numberAt}
 use Rattle.messages.specs.Questions.{asking, thenAsk, rangeIn, rangeAt}
 use Rattle.messages.specs.laws.QuestionLaws.{ask-no-number, ask-number}
 use borrow.Author.Needs.{needs}

@@ -1,6 +1,6 @@
 use native.Mathlib.Omega.{arith}
-use Rattle.numbers.specs.Numbers.{number}
-use Rattle.numbers.specs.laws.NumberLaws.{size-most, size-last}
+use Rattle.messages.specs.Numbers.{number}
+use Rattle.messages.specs.laws.NumberLaws.{size-most, size-last}
 use Rattle.messages.specs.laws.WritingLaws.{four-short, four-whole}
 use borrow.Author.Needs.{needs}
 use Rattle.messages.proofs.questions.write_opening.Statement.{statement}

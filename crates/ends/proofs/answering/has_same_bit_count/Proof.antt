@@ -1,0 +1,19 @@
+use borrow.Author.Tests.{eq-eqb, ne-eqb}
+use Rattle.ends.specs.HolderCall.{sameBitCount}
+use borrow.Author.Needs.{needs}
+use Rattle.ends.proofs.answering.has_same_bit_count.Statement.{statement}
+use Rattle.ends.proofs.answering.has_same_bit_count.Tie as tie
+
+returns : tie.Need-returns
+unfolding sameBitCount
+returns c = simp (ne-eqb _ _ (c .if1 .taken))
+
+cast-result : tie.Need-cast-result
+cast-result c = search needs
+
+returns-2 : tie.Need-returns-2
+unfolding sameBitCount
+returns-2 c = simp (eq-eqb _ _ (c .before .if1 .left))
+
+pub has-same-bit-count-spec : {M : Type 1} → statement M
+has-same-bit-count-spec = tie.close (tie.spec returns cast-result returns-2)

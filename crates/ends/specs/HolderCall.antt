@@ -1,0 +1,74 @@
+-- The holder's call (01, "Messages" and "Why a call is turned down"): what the contract of the code and demand 3 are stated with.
+use mathlib.Core.Bool.{Bool, true, false, not, _&&_, _||_}
+use mathlib.Core.List.{List}
+use Prim.Native.Nat.{ℕ, _+_}
+use lib.ListN.{length}
+use lib.Dec.{leb, ltb, eqb}
+use Rattle.strings.specs.Bits.{range}
+use Rattle.strings.specs.StringRule.{stringRule}
+use Rattle.strings.specs.declared.Refusal.{Refusal}
+use Rattle.strings.specs.declared.Refusal.the-variants.{BadString, OutOfTurn, NoRoom}
+use Rattle.messages.specs.declared.Kind.{Kind}
+use Rattle.messages.specs.declared.Kind.the-variants.{Open, Hash, Syndrome, Bits}
+use Rattle.messages.specs.declared.KindRead.{KindRead}
+use Rattle.messages.specs.declared.KindRead.the-variants.{Known, NoKind}
+use Rattle.messages.specs.declared.Question.{Question}
+use Rattle.messages.specs.declared.Question.the-variants.{AskOpen, AskHash, AskSyndrome, AskBits}
+use Rattle.messages.specs.declared.QuestionRead.{QuestionRead}
+use Rattle.messages.specs.declared.QuestionRead.the-variants.{Asked, NoQuestion}
+use Rattle.messages.specs.Kinds.{kindAt}
+use Rattle.messages.specs.Questions.{fieldsAt}
+use Rattle.messages.specs.Answers.{answerBytes}
+use Rattle.ends.specs.declared.Holder.{Holder}
+use Rattle.ends.specs.Runs.{answer}
+use Rattle.ends.specs.Soundness.{holderSound}
+
+-- a fresh holder
+abbrev pub freshHolder : Holder
+freshHolder = record { opened = 0; bits = 0; h = 0; key = 0; answers = 0 }
+
+-- what a call comes to: turned down, or the next state and the message that is sent
+pub data Heard : Type 0 where
+  declines : Refusal → Heard
+  replies : Holder → List ℕ → Heard
+
+abbrev pub unlessHeard : Bool → Refusal → Heard → Heard
+unlessHeard true e go = go
+unlessHeard false e go = declines e
+
+-- an opened holder is held to the bit count of its opening
+unfoldable pub sameBitCount : Holder → ℕ → Bool
+sameBitCount st bits = not (eqb (st .opened) 1) || eqb (st .bits) bits
+
+-- kind 0 is in turn before the opening, the others after it
+abbrev pub inTurn : ℕ → Kind → Bool
+inTurn opened Open = eqb opened 0
+inTurn opened Hash = eqb opened 1
+inTurn opened Syndrome = eqb opened 1
+inTurn opened Bits = eqb opened 1
+
+-- the state after an answer
+abbrev pub afterAnswer : Holder → ℕ → Question → Holder
+afterAnswer st bits (AskOpen h key) = record { opened = 1; bits = bits; h = h; key = key; answers = 1 }
+afterAnswer st bits (AskHash x p) = record { opened = st .opened; bits = st .bits; h = st .h; key = st .key; answers = st .answers + 1 }
+afterAnswer st bits (AskSyndrome x p) = record { opened = st .opened; bits = st .bits; h = st .h; key = st .key; answers = st .answers + 1 }
+afterAnswer st bits (AskBits x p) = record { opened = st .opened; bits = st .bits; h = st .h; key = st .key; answers = st .answers + 1 }
+
+-- a message for which there is room
+unfoldable pub sends : ℕ → Holder → List ℕ → Heard
+sends room next m = unlessHeard (leb (length m) room) NoRoom (replies next m)
+
+abbrev pub answersTo : Holder → List ℕ → (bits room : ℕ) → QuestionRead → Heard
+answersTo st x bits room (NoQuestion e) = declines e
+answersTo st x bits room (Asked q) = sends room (afterAnswer st bits q) (answerBytes (answer (st .h) (st .key) (range x 0 bits) q))
+
+abbrev pub ofKind : Holder → List ℕ → (bits : ℕ) → List ℕ → (room : ℕ) → KindRead → Heard
+ofKind st x bits msg room (NoKind e) = declines e
+ofKind st x bits msg room (Known k at) = unlessHeard (inTurn (st .opened) k) OutOfTurn (answersTo st x bits room (fieldsAt k msg at bits))
+
+-- the call on the bytes x of X, its bit count, a message and a reply buffer of room bytes: 2; 3; then the message, with 3 for a known kind out of turn; 9
+unfoldable pub holderCall : Holder → (x : List ℕ) (bits : ℕ) (msg : List ℕ) (room : ℕ) → Heard
+holderCall st x bits msg room =
+    unlessHeard (stringRule x bits && sameBitCount st bits) BadString (
+    unlessHeard (holderSound st && ltb (st .answers) 1000000) OutOfTurn (
+    ofKind st x bits msg room (kindAt msg)))

@@ -1,0 +1,31 @@
+-- What the holder's call gives and leaves (01, "Messages", "Why a call is turned down"), and what each case of the code's answer says.
+use mathlib.Core.List.{List}
+use Prim.Native.Nat.{ℕ}
+use lib.ListN.{length}
+use Rattle.strings.specs.Bits.{atFront}
+use Rattle.strings.specs.Refusals.{refusalNumber}
+use Rattle.codes.specs.Entries.{Answer, refusal, value}
+use Rattle.ends.specs.declared.Holder.{Holder}
+use Rattle.ends.specs.HolderCall.{Heard, declines, replies}
+use Rattle.ends.specs.declared.answering.HolderAnswer.{HolderAnswer}
+use Rattle.ends.specs.declared.answering.HolderAnswer.the-variants.{Replied, Refused}
+use Rattle.ends.specs.declared.answering.HolderOut.{HolderOut}
+
+-- a refusal's number alone or the length of the message sent; the next state; the bytes of the reply buffer
+pub record HolderSaid : Type 0 where
+  pub answer : Answer ℕ
+  pub state : Holder
+  pub reply : List ℕ
+
+-- what the code's answer says: a reply's length, or 01's number of the refusal
+abbrev pub answerSaid : HolderAnswer → Answer ℕ
+answerSaid (Replied size) = value size
+answerSaid (Refused e) = refusal (refusalNumber e)
+
+abbrev pub saidHolder : HolderOut → List ℕ → HolderSaid
+saidHolder r reply = record { answer = answerSaid (r .answer); state = r .state; reply = reply }
+
+-- turned down: state and reply stay; else the message stands at the front of the reply, and later bytes stay
+abbrev pub leavesHolder : Holder → List ℕ → Heard → HolderSaid
+leavesHolder st reply (declines e) = record { answer = refusal (refusalNumber e); state = st; reply = reply }
+leavesHolder st reply (replies next m) = record { answer = value (length m); state = next; reply = atFront m reply }

@@ -1,0 +1,243 @@
+-- The rebuilder's start and call (01, "The rebuilder" and "Why a call is turned down"): what the contracts of the code and demand 3 are stated with.
+use mathlib.Core.Bool.{Bool, true, false, cond, _&&_}
+use mathlib.Core.List.{List, [], _∷_}
+use mathlib.Core.Option.{Option, none, some}
+use Prim.Native.Nat.{ℕ, zero, suc, _+_, _-_, _*_, _/_}
+use lib.ListN.{length, replicate}
+use lib.Seq.{sets}
+use lib.Dec.{leb, ltb, eqb}
+use Rattle.strings.specs.Bits.{range, bytesFor, writeBits, cleared}
+use Rattle.strings.specs.StringRule.{stringRule}
+use Rattle.strings.specs.declared.Refusal.{Refusal}
+use Rattle.strings.specs.declared.Refusal.the-variants.{BadSetting, BadString, OutOfTurn, NoRoom}
+use Rattle.messages.specs.declared.Question.{Question}
+use Rattle.messages.specs.declared.Question.the-variants.{AskOpen, AskHash, AskSyndrome, AskBits}
+use Rattle.messages.specs.declared.AnswerRead.{AnswerRead}
+use Rattle.messages.specs.declared.AnswerRead.the-variants.{IsSize, IsHash, IsSyndrome, IsBits, NoAnswer}
+use Rattle.messages.specs.Questions.{questionKind, questionBytes}
+use Rattle.messages.specs.Answers.{Answer, sizeAnswer, hashAnswer, syndromeAnswer, bitsAnswer, readAnswer}
+use Rattle.strings.specs.declared.settings.Settings.{Settings}
+use Rattle.ends.specs.declared.How.the-variants.{ByAnchor, ByBits}
+use Rattle.ends.specs.declared.Row.{Row}
+use Rattle.ends.specs.declared.Rebuilder.{Rebuilder}
+use Rattle.ends.specs.declared.SheetChange.{SheetChange}
+use Rattle.ends.specs.declared.SheetChange.the-variants.{NoRow, AddRow, OneRow}
+use Rattle.strings.specs.SettingLimits.{withinLimits}
+use Rattle.ends.specs.Segments.{Stage, hashing, puttingIn, takingOut, anchors, middle, Effect, settles, stays, splits, effect, row, theSize, theBits}
+use Rattle.ends.specs.States.{noPiece, top, popped, pushed, restaged, retried, splitAt, planned}
+use Rattle.ends.specs.Soundness.{sound}
+
+-- ---- the start
+abbrev pub freshRebuilder : Settings → ℕ → Rebuilder
+freshRebuilder S bits = record {
+  settings = S;
+  ybits = bits;
+  phase = 0;
+  n = 0;
+  answered = 0;
+  counted = 0;
+  rows = 0;
+  stage = 0;
+  waiting = 0;
+  pieces = replicate 32 noPiece;
+}
+
+-- the start comes to: turned down, or a state and the question that is written
+pub data Started : Type 0 where
+  startDeclines : Refusal → Started
+  starts : Rebuilder → List ℕ → Started
+
+abbrev pub unlessStarted : Bool → Refusal → Started → Started
+unlessStarted true e go = go
+unlessStarted false e go = startDeclines e
+
+-- with settings, the bytes y of Y and their bit count, and a question buffer of room bytes: 1, 2, 9
+unfoldable pub rebuilderStart : Settings → (y : List ℕ) (bits room : ℕ) → Started
+rebuilderStart S y bits room =
+    unlessStarted (withinLimits S) BadSetting (
+    unlessStarted (stringRule y bits) BadString (
+    unlessStarted (leb 8 room) NoRoom (
+    starts (freshRebuilder S bits) (questionBytes (AskOpen (S .h) (S .key))))))
+
+-- ---- what an answer makes of state, string and sheet
+-- the stage that a state's number stands for, of a piece of lengths p and q
+abbrev pub numberedStage : Settings → (p q j : ℕ) → Stage
+numberedStage S p q zero = cond (eqb q p) hashing (cond (eqb (q + 1) p) puttingIn takingOut)
+numberedStage S p q (suc zero) = anchors (middle (S .m) p ∷ (middle (S .m) p + S .m) ∷ (middle (S .m) p - S .m) ∷ [])
+numberedStage S p q (suc (suc zero)) = anchors ((middle (S .m) p + S .m) ∷ (middle (S .m) p - S .m) ∷ [])
+numberedStage S p q (suc (suc (suc zero))) = anchors ((middle (S .m) p - S .m) ∷ [])
+numberedStage S p q (suc (suc (suc (suc j)))) = anchors []
+
+-- what happens to the string buffer: nothing; its first bytesFor n bytes are zeroed; bits are written from a place on
+pub data StringChange : Type 0 where
+  keeps : StringChange
+  clears : (n : ℕ) → StringChange
+  writes : (at : ℕ) → List Bool → StringChange
+
+abbrev pub stringAfter : List ℕ → StringChange → List ℕ
+stringAfter s keeps = s
+stringAfter s (clears n) = cleared s 0 (bytesFor n)
+stringAfter s (writes at l) = writeBits s at l
+
+-- and to the sheet: a whole-string answer leaves one row and sets the used ones behind it to zeros
+abbrev pub noRow : Row
+noRow = record { start = 0; len = 0; how = 0 }
+
+abbrev pub sheetAfter : List Row → SheetChange → List Row
+sheetAfter sh NoRow = sh
+sheetAfter sh (AddRow i r) = sets sh i (r ∷ [])
+sheetAfter sh (OneRow used r) = sets sh 0 (r ∷ replicate (used - 1) noRow)
+
+-- how many rows a sheet needs for a change
+abbrev pub rowsNeeded : SheetChange → ℕ
+rowsNeeded NoRow = 0
+rowsNeeded (AddRow i r) = i + 1
+rowsNeeded (OneRow used r) = used - 1 + 1
+
+pub record Step : Type 0 where
+  pub state : Rebuilder
+  pub string : StringChange
+  pub sheet : SheetChange
+
+-- the state with other phase and counts
+abbrev pub counting : Rebuilder → (phase answered counted rows : ℕ) → Rebuilder
+counting st ph a c r = record {
+  settings = st .settings;
+  ybits = st .ybits;
+  phase = ph;
+  n = st .n;
+  answered = a;
+  counted = c;
+  rows = r;
+  stage = st .stage;
+  waiting = st .waiting;
+  pieces = st .pieces;
+}
+
+-- an answer of size bytes and the rows that it brought are counted; past the ceiling, if pieces wait, bits 0, n is asked for
+unfoldable pub tallied : Rebuilder → (size rows : ℕ) → Rebuilder
+tallied st size rows =
+    counting st (cond (ltb (st .settings .ceiling) (st .counted + size) && ltb 0 (st .waiting)) 2 1) (st .answered + 1) (st .counted + size) (st .rows + rows)
+
+-- what the effect of an answer of size bytes on the leftmost piece makes
+unfoldable pub effectStep : Rebuilder → (size : ℕ) → Effect → Step
+effectStep st size (settles w b) = record {
+  state = tallied (restaged (popped st)) size 1;
+  string = writes (top st .x) b;
+  sheet = AddRow (st .rows) (row (top st .x) (top st .p) w);
+}
+effectStep st size (stays t) = record { state = tallied (retried st) size 0; string = keeps; sheet = NoRow }
+effectStep st size (splits s r b) = record {
+  state = tallied (splitAt st s r) size 1;
+  string = writes (top st .x + s) b;
+  sheet = AddRow (st .rows) (row (top st .x + s) (st .settings .m) ByAnchor);
+}
+
+-- the state once X has n bits, with nothing waiting yet
+abbrev pub openedState : Rebuilder → ℕ → Rebuilder
+openedState st n = record {
+  settings = st .settings;
+  ybits = st .ybits;
+  phase = 1;
+  n = n;
+  answered = st .answered + 1;
+  counted = 0;
+  rows = 0;
+  stage = 0;
+  waiting = 0;
+  pieces = st .pieces;
+}
+
+-- the opening's answer n: the first piece is all of both
+unfoldable pub openingStep : Rebuilder → ℕ → Step
+openingStep st n = record {
+  state = restaged (pushed (openedState st n) (record { x = 0; p = n; y = 0; q = st .ybits }));
+  string = clears n;
+  sheet = NoRow;
+}
+
+-- the state once all bits have come in an answer of size bytes
+abbrev pub wholeState : Rebuilder → (size : ℕ) → Rebuilder
+wholeState st size = record {
+  settings = st .settings;
+  ybits = st .ybits;
+  phase = 1;
+  n = st .n;
+  answered = st .answered + 1;
+  counted = st .counted + size;
+  rows = 1;
+  stage = 0;
+  waiting = 0;
+  pieces = replicate 32 noPiece;
+}
+
+-- the whole string's bits
+unfoldable pub wholeStep : Rebuilder → (size : ℕ) → List Bool → Step
+wholeStep st size l = record { state = wholeState st size; string = writes 0 l; sheet = OneRow (st .rows) (row 0 (st .n) ByBits) }
+
+-- one answer of size bytes
+unfoldable pub stepOf : Rebuilder → (y : List ℕ) → (size : ℕ) → Answer → Step
+stepOf st y size a =
+    cond (eqb (st .phase) 0) (openingStep st (theSize a)) (
+    cond (eqb (st .phase) 1)
+    (effectStep st size (effect (st .settings) a (top st .p) (range y (top st .y) (top st .q)) (numberedStage (st .settings) (top st .p) (top st .q) (st .stage))))
+    (wholeStep st size (theBits a)))
+
+-- ---- the call
+-- what it comes to: turned down, or a step and the question that is written, which is empty at the finish
+pub data Taken : Type 0 where
+  refuses : Refusal → Taken
+  takes : Step → List ℕ → Taken
+
+abbrev pub unlessTaken : Bool → Refusal → Taken → Taken
+unlessTaken true e go = go
+unlessTaken false e go = refuses e
+
+abbrev pub writtenQuestion : Option Question → List ℕ
+writtenQuestion none = []
+writtenQuestion (some q) = questionBytes q
+
+-- the length of the bits that a question asks about
+abbrev pub questionLength : Question → ℕ
+questionLength (AskOpen h key) = 0
+questionLength (AskHash x p) = p
+questionLength (AskSyndrome x p) = p
+questionLength (AskBits x p) = p
+
+-- lent bytes of the string buffer and the question buffer, and rows of the sheet
+pub record Rooms : Type 0 where
+  pub string : ℕ
+  pub sheet : ℕ
+  pub question : ℕ
+
+-- enough for n bits: n is the opening's answer, or known since
+abbrev pub roomFor : Rebuilder → ℕ → Rooms → Bool
+roomFor st n rooms = leb (bytesFor n) (rooms .string) && (leb (2 * (n / st .settings .m) + 1) (rooms .sheet) && leb 8 (rooms .question))
+
+abbrev pub bitsKnown : Rebuilder → Answer → ℕ
+bitsKnown st a = cond (eqb (st .phase) 0) (theSize a) (st .n)
+
+abbrev pub given : Rebuilder → (y msg : List ℕ) → Rooms → Answer → Taken
+given st y msg rooms a =
+    unlessTaken (roomFor st (bitsKnown st a) rooms) NoRoom (
+    takes (stepOf st y (length msg) a) (writtenQuestion (planned (stepOf st y (length msg) a .state))))
+
+-- an answer that was read, to a question for len bits
+abbrev pub hears : Rebuilder → (y msg : List ℕ) → Rooms → (len : ℕ) → AnswerRead → Taken
+hears st y msg rooms len (IsSize n) = given st y msg rooms (sizeAnswer n)
+hears st y msg rooms len (IsHash v) = given st y msg rooms (hashAnswer v)
+hears st y msg rooms len (IsSyndrome a v) = given st y msg rooms (syndromeAnswer a v)
+hears st y msg rooms len (IsBits at) = given st y msg rooms (bitsAnswer (range msg (8 * at) len))
+hears st y msg rooms len (NoAnswer e) = refuses e
+
+-- finished: out of turn
+abbrev pub awaits : Rebuilder → (y msg : List ℕ) → Rooms → Option Question → Taken
+awaits st y msg rooms none = refuses OutOfTurn
+awaits st y msg rooms (some q) = hears st y msg rooms (questionLength q) (readAnswer (questionKind q) (questionLength q) (st .settings .h) msg)
+
+-- with the bytes y of Y, their bit count and a message: 2; 3; then the message; 9
+unfoldable pub rebuilderCall : Rebuilder → (y : List ℕ) (bits : ℕ) (msg : List ℕ) → Rooms → Taken
+rebuilderCall st y bits msg rooms =
+    unlessTaken (stringRule y bits && eqb (st .ybits) bits) BadString (
+    unlessTaken (sound st) OutOfTurn (
+    awaits st y msg rooms (planned st)))

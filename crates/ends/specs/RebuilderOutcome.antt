@@ -1,0 +1,95 @@
+-- What the rebuilder's start and call give and leave in the lent buffers, and what each case of the code's answers says.
+use mathlib.Core.List.{List, [], _∷_}
+use Prim.Native.Nat.{ℕ}
+use lib.ListN.{length, replicate}
+use Rattle.ends.specs.declared.Rebuilder.{Rebuilder}
+use Rattle.ends.specs.declared.SheetChange.{SheetChange}
+use Rattle.ends.specs.declared.SheetChange.the-variants.{NoRow}
+use Rattle.ends.specs.States.{noPiece}
+use Rattle.ends.specs.RebuilderCall.{Started, startDeclines, starts, Taken, refuses, takes, stringAfter, Rooms}
+use Rattle.ends.specs.declared.rebuilding.StartAnswer.{StartAnswer}
+use Rattle.ends.specs.declared.rebuilding.StartAnswer.the-variants.{Begun, NotBegun}
+use Rattle.ends.specs.declared.rebuilding.StartOut.{StartOut}
+use Rattle.ends.specs.declared.rebuilding.RebuilderAnswer.{RebuilderAnswer}
+use Rattle.ends.specs.declared.rebuilding.RebuilderAnswer.the-variants.{Asks, Finished, Refused}
+use Rattle.ends.specs.declared.rebuilding.RebuilderOut.{RebuilderOut}
+use Rattle.codes.specs.Entries.{Answer, refusal, value}
+use Rattle.strings.specs.Bits.{atFront}
+use Rattle.strings.specs.Refusals.{refusalNumber}
+use mathlib.Core.Option.{Option, none, some}
+
+-- ---- the start
+-- what the code's answer says: the length of the opening question, or 01's number of the refusal
+abbrev pub startSaid : StartAnswer → Answer ℕ
+startSaid (Begun size) = value size
+startSaid (NotBegun e) = refusal (refusalNumber e)
+
+pub record StartSaid : Type 0 where
+  pub answer : Answer ℕ
+  pub state : Rebuilder
+  pub question : List ℕ
+
+-- the state that a refused start gives: zeros, which no call takes
+abbrev pub noRebuilder : Rebuilder
+noRebuilder = record {
+  settings = record { m = 0; h = 0; k = 0; key = 0; ceiling = 0 };
+  ybits = 0;
+  phase = 0;
+  n = 0;
+  answered = 0;
+  counted = 0;
+  rows = 0;
+  stage = 0;
+  waiting = 0;
+  pieces = replicate 32 noPiece;
+}
+
+abbrev pub saidStart : StartOut → List ℕ → StartSaid
+saidStart r q = record { answer = startSaid (r .answer); state = r .state; question = q }
+
+-- turned down: the question buffer is as it was; begun: the opening question stands at its front
+abbrev pub leavesStart : List ℕ → Started → StartSaid
+leavesStart q (startDeclines e) = record { answer = refusal (refusalNumber e); state = noRebuilder; question = q }
+leavesStart q (starts st m) = record { answer = value (length m); state = st; question = atFront m q }
+
+-- ---- the call
+-- what the code's answer says: the length of the next question, none at the finish, or 01's number of the refusal
+abbrev pub callSaid : RebuilderAnswer → Answer (Option ℕ)
+callSaid (Asks size) = value (some size)
+callSaid Finished = value none
+callSaid (Refused e) = refusal (refusalNumber e)
+
+pub record RebuilderSaid : Type 0 where
+  pub answer : Answer (Option ℕ)
+  pub state : Rebuilder
+  pub sheet : SheetChange
+  pub answered : ℕ
+  pub counted : ℕ
+  pub string : List ℕ
+  pub question : List ℕ
+
+abbrev pub saidRebuilder : RebuilderOut → List ℕ → List ℕ → RebuilderSaid
+saidRebuilder r s q = record { answer = callSaid (r .answer); state = r .state; sheet = r .sheet; answered = r .answered; counted = r .counted; string = s; question = q }
+
+-- the length of the question that is written; at the finish there is none
+abbrev pub nextSize : List ℕ → Option ℕ
+nextSize [] = none
+nextSize (b ∷ m) = some (length (b ∷ m))
+
+-- turned down: state, string and question buffer are as they were; taken: the step's state, its changes of string and sheet, and the question at the front of its buffer.
+-- The result carries the questions answered and the counted bytes too
+abbrev pub leavesRebuilder : Rebuilder → List ℕ → List ℕ → Taken → RebuilderSaid
+leavesRebuilder st s q (refuses e) = record { answer = refusal (refusalNumber e); state = st; sheet = NoRow; answered = st .answered; counted = st .counted; string = s; question = q }
+leavesRebuilder st s q (takes k m) = record {
+  answer = value (nextSize m);
+  state = k .state;
+  sheet = k .sheet;
+  answered = k .state .answered;
+  counted = k .state .counted;
+  string = stringAfter s (k .string);
+  question = atFront m q;
+}
+
+-- the lent room of a call: bytes of string and question buffer, rows of the sheet
+abbrev pub rooms : (string sheet question : ℕ) → Rooms
+rooms s r q = record { string = s; sheet = r; question = q }

@@ -1,0 +1,109 @@
+-- 01, "The rebuilder": a run, from n, Y, the settings and the answers taken.
+use mathlib.Core.Path.{_≡_}
+use mathlib.Core.Bool.{Bool, false, cond, _&&_}
+use mathlib.Core.List.{List, [], _∷_, _++_}
+use mathlib.Core.Option.{Option, some}
+use Prim.Native.Nat.{ℕ, zero, suc, _+_, _/_}
+use lib.ListN.{length}
+use lib.Dec.{ltb}
+use Rattle.codes.specs.Syndrome.{syndrome}
+use Rattle.codes.specs.Hash.{hash}
+use Rattle.messages.specs.declared.Question.{Question}
+use Rattle.messages.specs.declared.Question.the-variants.{AskOpen, AskHash, AskSyndrome, AskBits}
+use Rattle.messages.specs.Answers.{Answer, sizeAnswer, hashAnswer, syndromeAnswer, bitsAnswer, answerBytes}
+use Rattle.strings.specs.declared.settings.Settings.{Settings}
+use Rattle.ends.specs.declared.How.the-variants.{ByBits}
+use Rattle.ends.specs.declared.Row.{Row}
+use Rattle.ends.specs.Anchors.{part}
+use Rattle.ends.specs.Segments.{Segment, dropped, waiting, settled, begin, ask, step, waits, row, newRows, theSize, theBits}
+
+-- the holder's answer for X to a question, under an opening's h and key
+abbrev pub answer : (h key : ℕ) → List Bool → Question → Answer
+answer h key X (AskOpen h′ key′) = sizeAnswer (length X)
+answer h key X (AskHash x p) = hashAnswer (hash h key (part X x p))
+answer h key X (AskSyndrome x p) = syndromeAnswer (syndrome (part X x p)) (hash h key (part X x p))
+answer h key X (AskBits x p) = bitsAnswer (part X x p)
+
+-- the holder's answer under the rebuilder's own opening
+abbrev pub told : Settings → List Bool → Question → Answer
+told S X q = answer (S .h) (S .key) X q
+
+-- an answer's bytes, as the count takes them
+unfoldable pub sizeOf : Answer → ℕ
+sizeOf a = length (answerBytes a)
+
+-- 01's F: the bytes of the answer to bits 0, n
+abbrev pub full : ℕ → ℕ
+full n = 1 + (n + 7) / 8
+
+-- before the opening's answer; with n, the counted bytes, the pieces and the rows, finished where no piece waits; the same, but bits 0, n asked for
+pub data Run : Type 0 where
+  opening : Run
+  working : (n count : ℕ) → List Segment → List Row → Run
+  whole : (n count : ℕ) → List Segment → List Row → Run
+
+-- the question that waits; none after the finish
+abbrev pub question : Settings → Run → Option Question
+question S opening = some (AskOpen (S .h) (S .key))
+question S (working n c segs rows) = ask S 0 segs
+question S (whole n c segs rows) = some (AskBits 0 n)
+
+-- the ceiling: if the count exceeds it and pieces wait, the next question is bits 0, n
+unfoldable pub judge : Settings → (n count : ℕ) → List Segment → List Row → Run
+judge S n c segs rows = cond (ltb (S .ceiling) c && waits segs) (whole n c segs rows) (working n c segs rows)
+
+-- after one answer more; the opening's is not counted, and bits 0, n replaces everything
+abbrev pub advance : Settings → List Bool → Run → Answer → Run
+advance S Y opening a = working (theSize a) 0 (begin S (theSize a) Y ∷ []) []
+advance S Y (working n c segs rows) a = judge S n (c + sizeOf a) (step S a segs) (rows ++ newRows S a 0 segs)
+advance S Y (whole n c segs rows) a = working n (c + sizeOf a) (settled ByBits Y (theBits a) ∷ []) (row 0 n ByBits ∷ [])
+
+-- the run that the answers make; the list has the last one first
+abbrev pub run : Settings → List Bool → List Answer → Run
+run S Y [] = opening
+run S Y (a ∷ l) = advance S Y (run S Y l) a
+
+-- each answer is the holder's to the question that then waited, under the rebuilder's own opening
+abbrev pub Honest : Settings → (X Y : List Bool) → List Answer → Type 0
+Honest S X Y [] = Unit {0}
+Honest S X Y (a ∷ l) = Honest S X Y l × ((q : Question) × (question S (run S Y l) ≡ some q) × (a ≡ told S X q))
+
+-- ---- what a run has
+abbrev pub piecesOf : Run → List Segment
+piecesOf opening = []
+piecesOf (working n c segs rows) = segs
+piecesOf (whole n c segs rows) = segs
+
+abbrev pub sheetOf : Run → List Row
+sheetOf opening = []
+sheetOf (working n c segs rows) = rows
+sheetOf (whole n c segs rows) = rows
+
+abbrev pub countOf : Run → ℕ
+countOf opening = 0
+countOf (working n c segs rows) = c
+countOf (whole n c segs rows) = c
+
+-- the bits of the string: zeros for what waits
+abbrev pub blank : ℕ → List Bool
+blank zero = []
+blank (suc n) = false ∷ blank n
+
+abbrev pub bitsOf : Segment → List Bool
+bitsOf (dropped ys) = []
+bitsOf (waiting p ys t) = blank p
+bitsOf (settled w ys b) = b
+
+abbrev pub string : List Segment → List Bool
+string [] = []
+string (s ∷ r) = bitsOf s ++ string r
+
+-- the copies of the pieces, which are together Y
+abbrev pub copyOf : Segment → List Bool
+copyOf (dropped ys) = ys
+copyOf (waiting p ys t) = ys
+copyOf (settled w ys b) = ys
+
+abbrev pub copies : List Segment → List Bool
+copies [] = []
+copies (s ∷ r) = copyOf s ++ copies r

@@ -1,0 +1,177 @@
+-- Laws for the proofs of src/answering.rt.
+use mathlib.Core.Path.{_≡_, refl, sym, ap, ap₂, _∙_, subst}
+use mathlib.Core.Bool.{Bool, true, false, cond, _&&_}
+use mathlib.Core.List.{List}
+use Prim.Native.Nat.{ℕ, _≤_, _<_}
+use native.Mathlib.Nat.{zero-add}
+use native.Mathlib.Omega.{arith}
+use native.Mathlib.Decide.{decLt}
+use lib.ListN.{length}
+use lib.Dec.{leb, ltb, eqb}
+use borrow.Author.Tests.{lt-leb, le-leb, leb-true, ltb-true, eqb-true}
+use Rattle.strings.specs.Bits.{range}
+use Rattle.strings.specs.StringRule.{stringRule}
+use Rattle.strings.specs.laws.RangeLaws.{range-length, range-part}
+use Rattle.strings.specs.laws.RuleLaws.{rule-is}
+use Rattle.strings.specs.laws.Tests.{and-left, and-right}
+use Rattle.strings.specs.declared.Refusal.{Refusal}
+use Rattle.strings.specs.declared.Refusal.the-variants.{BadString, OutOfTurn}
+use Rattle.codes.specs.Syndrome.{syndrome}
+use Rattle.codes.specs.laws.SyndromeLaws.{syndrome-most}
+use Rattle.codes.specs.Hash.{hash}
+use Rattle.messages.specs.declared.Kind.{Kind}
+use Rattle.messages.specs.declared.KindRead.{KindRead}
+use Rattle.messages.specs.declared.KindRead.the-variants.{Known}
+use Rattle.messages.specs.declared.Question.{Question}
+use Rattle.messages.specs.declared.Question.the-variants.{AskOpen, AskHash, AskSyndrome, AskBits}
+use Rattle.messages.specs.declared.QuestionRead.{QuestionRead}
+use Rattle.messages.specs.declared.QuestionRead.the-variants.{Asked}
+use Rattle.messages.specs.declared.WriteResult.{WriteResult}
+use Rattle.messages.specs.Kinds.{kindAt}
+use Rattle.messages.specs.Questions.{fieldsAt}
+use Rattle.messages.specs.laws.QuestionLaws.{Within, RangeWithin, fields-within}
+use Rattle.messages.specs.Answers.{Answer, sizeAnswer, hashAnswer, syndromeAnswer, bitsAnswer, answerBytes}
+use Rattle.messages.specs.Writing.{Outcome, leaves, putFront}
+use Rattle.messages.specs.laws.WritingLaws.{put-fits, put-short}
+use Rattle.ends.specs.declared.Holder.{Holder}
+use Rattle.ends.specs.Anchors.{part}
+use Rattle.strings.specs.SettingLimits.{between}
+use Rattle.ends.specs.Soundness.{holderSound}
+use Rattle.ends.specs.HolderCall.{Heard, declines, sameBitCount, inTurn, sends, answersTo, ofKind, holderCall}
+use Rattle.ends.specs.declared.answering.HolderOut.{HolderOut}
+use Rattle.ends.specs.HolderOutcome.{HolderSaid, saidHolder, leavesHolder}
+use Rattle.ends.specs.code.HolderParts.{refused, written, openedWith, oneMore, Answers, Able, Ready}
+
+-- ---- a call that is turned down, and one that writes its answer
+pub refused-said : {st : Holder} {e : Refusal} {r : HolderOut} (reply : List ℕ) {heard : Heard} → r ≡ refused st e → heard ≡ declines e → saidHolder r reply ≡ leavesHolder st reply heard
+refused-said {st} reply f g = ap (λ (o : HolderOut). saidHolder o reply) f ∙ ap (leavesHolder st reply) (sym g)
+
+abbrev outcomeSaid : (st next : Holder) → Outcome → HolderSaid
+outcomeSaid st next (leaves w buf) = saidHolder (written st next w) buf
+
+put-sends : (st next : Holder) (m buf : List ℕ) → Dec (length buf < length m) → outcomeSaid st next (putFront m buf) ≡ leavesHolder st buf (sends (length buf) next m)
+unfolding sends
+put-sends st next m buf (yes h) = ap (outcomeSaid st next) (sym (put-short m buf h)) ∙ rw (lt-leb (length m) (length buf) h) refl
+put-sends st next m buf (no h) =
+    let l : length m ≤ length buf = omega arith in
+    ap (outcomeSaid st next) (put-fits m buf l) ∙ rw (le-leb (length m) (length buf) l) refl
+
+pub written-said : (st next next′ : Holder) (m m′ buf after : List ℕ) (w : WriteResult) {r : HolderOut} → r ≡ written st next w → leaves w after ≡ putFront m buf → next ≡ next′ → m ≡ m′ → saidHolder r after ≡ leavesHolder st buf (sends (length buf) next′ m′)
+written-said st next next′ m m′ buf after w e f g k =
+    ap (λ (o : HolderOut). saidHolder o after) e
+    ∙ ap (outcomeSaid st next) f
+    ∙ put-sends st next m buf (decLt (length buf) (length m))
+    ∙ ap₂ (λ (s : Holder) (l : List ℕ). leavesHolder st buf (sends (length buf) s l)) g k
+
+-- ---- what the tests and the reader show
+pub syndrome-few : (x : List ℕ) (start len : ℕ) → syndrome (range x start len) ≤ len
+syndrome-few x start len =
+    let m = syndrome-most (range x start len) in
+    let e = range-length x start len in
+    omega arith
+
+-- an unopened sound state has h 0
+sound-width : (st : Holder) → holderSound st ≡ true → st .h ≤ 32
+unfolding holderSound
+sound-width st e = go (eqb (st .opened) 0) e
+  where
+    fresh : Bool
+    fresh = eqb (st .key) 0 && eqb (st .answers) 0
+
+    rest : Bool
+    rest = leb 1 (st .key) && between 1 (st .answers) 1000000
+
+    go : (t : Bool) → cond t (eqb (st .bits) 0 && (eqb (st .h) 0 && fresh)) (eqb (st .opened) 1 && (leb (st .bits) 65536 && (between 8 (st .h) 32 && rest))) ≡ true → st .h ≤ 32
+    go true e = let z = eqb-true (st .h) 0 (and-left (eqb (st .h) 0) fresh (and-right (eqb (st .bits) 0) (eqb (st .h) 0 && fresh) e)) in omega arith
+    go false e =
+        let a = and-right (eqb (st .opened) 1) (leb (st .bits) 65536 && (between 8 (st .h) 32 && rest)) e in
+        let b = and-left (between 8 (st .h) 32) rest (and-right (leb (st .bits) 65536) (between 8 (st .h) 32 && rest) a) in
+        leb-true (st .h) 32 (and-right (leb 8 (st .h)) (leb (st .h) 32) b)
+
+-- ---- the answers, for bits of X where they lie
+module _ (st : Holder) (x : List ℕ) (n : ℕ) where
+  pub able-few : Able st x n → n ≤ 65536
+  able-few a = rule-is x n (a .string) .few
+
+  pub ready-within : {q q′ : Question} → Ready st x n q → q ≡ q′ → Within n q′
+  ready-within g e = subst (Within n) e (g .within)
+
+  pub able-answers : {start len : ℕ} → Able st x n → RangeWithin n start len → Answers st x start len
+  able-answers a w =
+      let r = rule-is x n (a .string) in
+      let f = r .few in
+      let b = r .bytes in
+      let e = w .ends in
+      record { part = record { there = omega arith; few = omega arith }; width = sound-width st (a .sound); left = a .left }
+
+  module _ (reply : List ℕ) {q : Question} {s : HolderSaid} where
+    pub open-asked : {h key : ℕ} → q ≡ AskOpen h key
+        → s ≡ leavesHolder st reply (sends (length reply) (openedWith n h key) (answerBytes (sizeAnswer n)))
+        → s ≡ leavesHolder st reply (answersTo st x n (length reply) (Asked q))
+    open-asked {h} {key} e f =
+        f ∙ ap (λ (k : ℕ). leavesHolder st reply (sends (length reply) (openedWith n h key) (answerBytes (sizeAnswer k)))) (sym (range-length x 0 n))
+        ∙ ap (λ (p : Question). leavesHolder st reply (answersTo st x n (length reply) (Asked p))) (sym e)
+
+    -- the part of X's bits that a question names is a range of X's bytes
+    range-asked : (answered : List Bool → Answer) (start len : ℕ) {q′ : Question} → RangeWithin n start len → q ≡ q′
+        → answersTo st x n (length reply) (Asked q′) ≡ sends (length reply) (oneMore st) (answerBytes (answered (part (range x 0 n) start len)))
+        → s ≡ leavesHolder st reply (sends (length reply) (oneMore st) (answerBytes (answered (range x start len))))
+        → s ≡ leavesHolder st reply (answersTo st x n (length reply) (Asked q))
+    range-asked answered start len w e g f =
+        let there : range x start len ≡ part (range x 0 n) start len = sym (range-part x 0 n start len (w .ends) ∙ ap (λ (k : ℕ). range x k len) (zero-add start)) in
+        f ∙ ap (λ (l : List Bool). leavesHolder st reply (sends (length reply) (oneMore st) (answerBytes (answered l)))) there
+        ∙ ap (leavesHolder st reply) (sym g)
+        ∙ ap (λ (p : Question). leavesHolder st reply (answersTo st x n (length reply) (Asked p))) (sym e)
+
+    module _ (g : Ready st x n q) {start len : ℕ} where
+      pub hash-asked : q ≡ AskHash start len
+          → s ≡ leavesHolder st reply (sends (length reply) (oneMore st) (answerBytes (hashAnswer (hash (st .h) (st .key) (range x start len)))))
+          → s ≡ leavesHolder st reply (answersTo st x n (length reply) (Asked q))
+      hash-asked e f = range-asked (λ l. hashAnswer (hash (st .h) (st .key) l)) start len (ready-within g e) e refl f
+
+      pub syndrome-asked : q ≡ AskSyndrome start len
+          → s ≡ leavesHolder st reply (sends (length reply) (oneMore st) (answerBytes (syndromeAnswer (syndrome (range x start len)) (hash (st .h) (st .key) (range x start len)))))
+          → s ≡ leavesHolder st reply (answersTo st x n (length reply) (Asked q))
+      syndrome-asked e f = range-asked (λ l. syndromeAnswer (syndrome l) (hash (st .h) (st .key) l)) start len (ready-within g e) e refl f
+
+      pub bits-asked : q ≡ AskBits start len
+          → s ≡ leavesHolder st reply (sends (length reply) (oneMore st) (answerBytes (bitsAnswer (range x start len))))
+          → s ≡ leavesHolder st reply (answersTo st x n (length reply) (Asked q))
+      bits-asked e f = range-asked bitsAnswer start len (ready-within g e) e refl f
+
+-- ---- the call, test by test
+module _ (st : Holder) (x : List ℕ) (bits : ℕ) where
+  pub tests-able : stringRule x bits && sameBitCount st bits ≡ true → holderSound st && ltb (st .answers) 1000000 ≡ true → Able st x bits
+  tests-able a b = record {
+    string = and-left (stringRule x bits) (sameBitCount st bits) a;
+    sound = and-left (holderSound st) (ltb (st .answers) 1000000) b;
+    left = ltb-true (st .answers) 1000000 (and-right (holderSound st) (ltb (st .answers) 1000000) b);
+  }
+
+  module _ (msg : List ℕ) (room : ℕ) where
+    pub call-bad-string : stringRule x bits && sameBitCount st bits ≡ false → holderCall st x bits msg room ≡ declines BadString
+    unfolding holderCall
+    call-bad-string a = rw a refl
+
+    pub call-out-of-turn : stringRule x bits && sameBitCount st bits ≡ true → holderSound st && ltb (st .answers) 1000000 ≡ false → holderCall st x bits msg room ≡ declines OutOfTurn
+    unfolding holderCall
+    call-out-of-turn a b = rw (a, b) refl
+
+    pub call-kind : {k k′ : KindRead} → stringRule x bits && sameBitCount st bits ≡ true → holderSound st && ltb (st .answers) 1000000 ≡ true → k ≡ kindAt msg → k ≡ k′ → holderCall st x bits msg room ≡ ofKind st x bits msg room k′
+    unfolding holderCall
+    call-kind a b e f = rw (a, b, ← e, f) refl
+
+    module _ (k : Kind) (at : ℕ) where
+      pub kind-out-of-turn : inTurn (st .opened) k ≡ false → ofKind st x bits msg room (Known k at) ≡ declines OutOfTurn
+      kind-out-of-turn t = rw t refl
+
+      pub kind-fields : {q q′ : QuestionRead} → inTurn (st .opened) k ≡ true → q ≡ fieldsAt k msg at bits → q ≡ q′ → ofKind st x bits msg room (Known k at) ≡ answersTo st x bits room q′
+      kind-fields t e f = rw (t, ← e, f) refl
+
+  module _ (msg : List ℕ) (k : Kind) (at : ℕ) {p : QuestionRead} {q : Question} where
+    pub able-ready : Able st x bits → p ≡ fieldsAt k msg at bits → p ≡ Asked q → Ready st x bits q
+    able-ready a e f = record { able = a; within = fields-within k msg at bits q (sym e ∙ f) .1 }
+
+-- what is said of a call is what is said of the part that it comes to
+pub said-by : {s : HolderSaid} (st : Holder) (reply : List ℕ) {whole heard : Heard} → s ≡ leavesHolder st reply heard → whole ≡ heard → s ≡ leavesHolder st reply whole
+said-by st reply e f = e ∙ ap (leavesHolder st reply) (sym f)

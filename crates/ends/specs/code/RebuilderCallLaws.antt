@@ -1,0 +1,429 @@
+-- Laws for the proofs of the rebuilder's call and start: which question waits, and what was read as its answer.
+use mathlib.Core.Path.{_≡_, refl, sym, ap, ap₂, _∙_, subst}
+use mathlib.Core.Bool.{Bool, true, false, _&&_, _||_}
+use mathlib.Core.Logic.{_⊎_, inl, inr}
+use mathlib.Core.List.{List, []}
+use mathlib.Core.Option.{Option, some}
+use Prim.Native.Nat.{ℕ, _+_, _-_, _*_, _/_, _≤_, _<_}
+use native.Mathlib.Omega.{arith}
+use lib.ListN.{length, take, drop, length-drop}
+use lib.Seq.{take-all}
+use lib.Dec.{leb, eqb}
+use borrow.Author.Tests.{le-leb, lt-leb, leb-true, leb-false, eqb-true, eq-eqb, ne-eqb, eqb-false}
+use Rattle.strings.specs.laws.Tests.{by-test, and-left, and-right, true-false}
+use Rattle.strings.specs.Bits.{range, writeBits, cleared, bytesFor, Part, atFront}
+use Rattle.strings.specs.StringRule.{stringRule}
+use Rattle.strings.specs.laws.RuleLaws.{rule-is}
+use Rattle.strings.specs.laws.RangeLaws.{range-length}
+use Rattle.strings.specs.laws.PackLaws.{Bytes}
+use Rattle.strings.specs.declared.Refusal.{Refusal}
+use Rattle.strings.specs.declared.Refusal.the-variants.{BadSetting, BadString, OutOfTurn, NoRoom}
+use Rattle.messages.specs.declared.Kind.{Kind}
+use Rattle.messages.specs.declared.Kind.the-variants.{Open, Hash, Syndrome, Bits}
+use Rattle.messages.specs.declared.WriteResult.{WriteResult}
+use Rattle.messages.specs.declared.WriteResult.the-variants.{Written, TooShort}
+use Rattle.messages.specs.Writing.{leaves, putFront}
+use Rattle.messages.specs.laws.WritingLaws.{put-fits}
+use Rattle.messages.specs.declared.Question.{Question}
+use Rattle.messages.specs.declared.Question.the-variants.{AskOpen, AskHash, AskSyndrome, AskBits}
+use Rattle.messages.specs.declared.AnswerRead.{AnswerRead}
+use Rattle.messages.specs.declared.AnswerRead.the-variants.{IsSize, IsHash, IsSyndrome, IsBits, NoAnswer}
+use Rattle.messages.specs.Questions.{questionKind, questionBytes}
+use Rattle.codes.specs.Entries.{value}
+use Rattle.messages.specs.Answers.{Answer, sizeAnswer, hashAnswer, syndromeAnswer, bitsAnswer, readAnswer, answerValue}
+use Rattle.messages.specs.laws.AnswerLaws.{answerKind, answer-form, bits-read, BitsAt, range-rest}
+use Rattle.strings.specs.declared.settings.Settings.{Settings}
+use Rattle.ends.specs.declared.How.the-variants.{ByBits}
+use Rattle.ends.specs.declared.Rebuilder.{Rebuilder}
+use Rattle.ends.specs.declared.SheetChange.the-variants.{NoRow, OneRow}
+use Rattle.strings.specs.SettingLimits.{withinLimits}
+use Rattle.ends.specs.Segments.{row}
+use Rattle.ends.specs.Runs.{sizeOf}
+use Rattle.ends.specs.laws.Shape.{Proper, Inside, sizes, size-bits}
+use Rattle.strings.specs.laws.SettingLaws.{limits-is}
+use Rattle.ends.specs.States.{top, planned, askFor}
+use Rattle.ends.specs.Soundness.{sound, stageFits, openingSound, phaseSound}
+use Rattle.ends.specs.laws.SoundParts.{Framed, sound-is, phase-whole, OpeningIs, opening-is, WholeIs, whole-is, PiecesIs, top-is, ask-inside, PhaseOf, isOpening, isPieces, isWhole, phase-of}
+use Rattle.ends.specs.laws.SoundSteps.{fresh-sound, opening-sound, whole-sound}
+use Rattle.ends.specs.laws.Steps.{step-opening, step-whole}
+use Rattle.ends.specs.RebuilderCall.{Taken, refuses, openingStep, wholeState, wholeStep, stepOf, questionLength, Rooms, roomFor, hears, awaits, rebuilderCall, Started, starts, startDeclines, rebuilderStart, freshRebuilder}
+use Rattle.ends.specs.declared.rebuilding.RebuilderOut.{RebuilderOut}
+use Rattle.ends.specs.declared.rebuilding.StartAnswer.the-variants.{Begun, NotBegun}
+use Rattle.ends.specs.declared.rebuilding.StartOut.{StartOut}
+use Rattle.ends.specs.code.StateCode.{Usable, Counts}
+use Rattle.ends.specs.code.SoundLaws.{sound-counts}
+use Rattle.ends.specs.RebuilderOutcome.{RebuilderSaid, saidRebuilder, leavesRebuilder, noRebuilder, saidStart, leavesStart}
+use Rattle.ends.specs.code.RebuilderParts.{OutIs, Acting, OneApart, oneLess, oneMore, stepTaken, Opening, WholeDue, BitsDue, dueLength, Due, answerRoom, heardStep, turnedDown}
+use Rattle.ends.specs.code.RebuilderCodeLaws.{out-said, step-said, size-most, question-short}
+
+-- ---- the whole string
+module _ (st : Rebuilder) (size room : ℕ) (k : WholeDue st size room) where
+  whole-framed : Framed st
+  whole-framed = sound-is st (k .sound-now) .0
+
+  whole-now : WholeIs st
+  whole-now = whole-is st (sym (phase-whole st (k .phase)) ∙ sound-is st (k .sound-now) .1)
+
+  pub whole-counts : Counts st size 0
+  whole-counts = let s = k .short in let n = whole-framed .size in sound-counts st (k .sound-now) size 0 (omega arith) (omega arith)
+
+  pub whole-text : (s : List ℕ) → st .n ≤ 8 * length s → Part s 0 (st .n)
+  whole-text s h = let n = whole-framed .size in record { there = omega arith; few = omega arith }
+
+  pub whole-next : sound (wholeState st size) ≡ true
+  unfolding wholeStep
+  whole-next = whole-sound st size [] whole-framed whole-now (k .short) .0
+
+  pub whole-said : {s : Rebuilder} → s ≡ wholeState st size → (y bits buf : List ℕ) {r : RebuilderOut} {buf′ q q′ : List ℕ}
+      → buf′ ≡ writeBits buf 0 (range bits 0 (st .n)) → OutIs r s (OneRow (st .rows) (row 0 (st .n) ByBits)) q q′
+      → saidRebuilder r buf′ q′ ≡ leavesRebuilder st buf q (stepTaken (stepOf st y size (bitsAnswer (range bits 0 (st .n)))))
+  unfolding wholeStep
+  whole-said g y bits buf {r} {buf′} {q} {q′} w o =
+      let l = range bits 0 (st .n) in
+      let two = k .phase in
+      step-said st buf q (step-whole st y size (bitsAnswer l) (omega arith))
+      (out-said st (wholeStep st size l) buf (subst (λ (z : Rebuilder). OutIs r z (OneRow (st .rows) (row 0 (st .n) ByBits)) q q′) g o) w)
+
+-- ---- the opening's answer
+module _ (st : Rebuilder) (n room : ℕ) (k : Opening st n room) where
+  opening-framed : Framed st
+  opening-framed = sound-is st (k .sound-now) .0
+
+  opening-now : OpeningIs st
+  opening-now =
+      let e : phaseSound st ≡ openingSound st = rw (eq-eqb (st .phase) 0 (k .phase)) refl in
+      opening-is st (sym e ∙ sound-is st (k .sound-now) .1)
+
+  pub opening-ready : Usable (st .settings) × (st .answered < 4294967295)
+  opening-ready = let L = opening-framed .limits in let a = opening-now .answered in (record { m-most = L .m-most; h-most = L .h-most }, omega arith)
+
+  pub opening-next : sound (openingStep st n .state) ≡ true
+  opening-next = opening-sound st n (k .array) opening-framed opening-now (k .small) .0
+
+  pub opening-said : {s : Rebuilder} → s ≡ openingStep st n .state → (y : List ℕ) (size : ℕ) (buf : List ℕ) {r : RebuilderOut} {buf′ q q′ : List ℕ}
+      → buf′ ≡ cleared buf 0 (bytesFor n) → OutIs r s NoRow q q′
+      → saidRebuilder r buf′ q′ ≡ leavesRebuilder st buf q (stepTaken (stepOf st y size (sizeAnswer n)))
+  unfolding openingStep
+  opening-said g y size buf {r} {buf′} {q} {q′} w o =
+      step-said st buf q (step-opening st y size (sizeAnswer n) (k .phase))
+      (out-said st (openingStep st n) buf (subst (λ (z : Rebuilder). OutIs r z NoRow q q′) g o) w)
+
+-- ---- bits
+module _ (st : Rebuilder) (size room : ℕ) (k : BitsDue st size room) where
+  pub bits-whole : st .phase ≡ 2 → WholeDue st size room
+  bits-whole e = go (k .phases)
+    where
+      go : (WholeDue st size room) ⊎ (Acting st size room × (0 < st .stage)) → WholeDue st size room
+      go (inl w) = w
+      go (inr a) = let f = a .0 .phase in absurd (omega arith)
+
+  pub bits-acting : (st .phase ≡ 2 → ⊥) → Acting st size room × (0 < st .stage)
+  bits-acting e = go (k .phases)
+    where
+      go : (WholeDue st size room) ⊎ (Acting st size room × (0 < st .stage)) → Acting st size room × (0 < st .stage)
+      go (inl w) = absurd (e (w .phase))
+      go (inr a) = a
+
+module _ (st : Rebuilder) where
+  pub due-whole : st .phase ≡ 2 → dueLength st ≡ st .n
+  due-whole e = rw (eq-eqb (st .phase) 2 e) refl
+
+  pub due-piece : (st .phase ≡ 2 → ⊥) → 4 ≤ st .stage → dueLength st ≡ top st .p
+  due-piece e h = rw (ne-eqb (st .phase) 2 e, le-leb 4 (st .stage) h) refl
+
+  pub due-anchor : (st .phase ≡ 2 → ⊥) → st .stage < 4 → dueLength st ≡ st .settings .m
+  due-anchor e h = rw (ne-eqb (st .phase) 2 e, lt-leb 4 (st .stage) h) refl
+
+  pub due-said : (y bits s q : List ℕ) (size : ℕ) {a b : ℕ} {x : RebuilderSaid} → b ≡ a
+      → x ≡ leavesRebuilder st s q (stepTaken (stepOf st y size (bitsAnswer (range bits 0 a))))
+      → x ≡ leavesRebuilder st s q (stepTaken (stepOf st y size (bitsAnswer (range bits 0 b))))
+  due-said y bits s q size e f = f ∙ ap (λ (i : ℕ). leavesRebuilder st s q (stepTaken (stepOf st y size (bitsAnswer (range bits 0 i))))) (sym e)
+
+-- ---- which phase and stage ask for a kind
+-- a question for the leftmost piece
+record ForPiece (st : Rebuilder) (q : Question) : Type 0 where
+  phase : st .phase ≡ 1
+  pieces : PiecesIs st
+  some : 0 < st .waiting
+  asks : askFor (st .settings .m) (st .stage) (top st) ≡ q
+
+-- what holds of a state whose question q is of a kind and for len bits
+abbrev KindDue : Rebuilder → Question → ℕ → Kind → Type 0
+KindDue st q len Open = st .phase ≡ 0
+KindDue st q len Hash = ForPiece st q × (st .stage ≡ 0) × (top st .q ≡ top st .p)
+KindDue st q len Syndrome = ForPiece st q × (st .stage ≡ 0) × (top st .q ≡ top st .p → ⊥)
+KindDue st q len Bits = (dueLength st ≡ len) × ((st .phase ≡ 2) ⊎ (ForPiece st q × (0 < st .stage)))
+
+abbrev AskDue : Rebuilder → (q x : Question) → Type 0
+AskDue st q x = KindDue st q (questionLength x) (questionKind x)
+
+piece-due : (st : Rebuilder) (q : Question) → ForPiece st q → AskDue st q (askFor (st .settings .m) (st .stage) (top st))
+unfolding askFor
+piece-due st q k =
+    let one = k .phase in
+    by-test (AskDue st q) (eqb (st .stage) 0)
+    (λ e. by-test (AskDue st q) (eqb (top st .q) (top st .p)) {a = AskHash (top st .x) (top st .p)} {b = AskSyndrome (top st .x) (top st .p)}
+    (λ f. (k, eqb-true (st .stage) 0 e, eqb-true (top st .q) (top st .p) f)) (λ f. (k, eqb-true (st .stage) 0 e, eqb-false (top st .q) (top st .p) f)))
+    (λ e. let n : st .stage ≡ 0 → ⊥ = eqb-false (st .stage) 0 e in
+    by-test (AskDue st q) (leb 4 (st .stage)) {a = AskBits (top st .x) (top st .p)}
+    (λ f. (due-piece st (λ z. omega arith) (leb-true 4 (st .stage) f), inr (k, omega arith))) (λ f. (due-anchor st (λ z. omega arith) (leb-false 4 (st .stage) f), inr (k, omega arith))))
+
+kind-due : (st : Rebuilder) (q : Question) → PhaseOf st q → AskDue st q q
+kind-due st q (isOpening p i e) = rw (← e) p
+kind-due st q (isPieces p i w e) = subst (AskDue st q) e (piece-due st q (record { phase = p; pieces = i; some = w; asks = e }))
+kind-due st q (isWhole p i e) = rw (← e) (due-whole st p, inl p)
+
+one-apart : (S : Settings) (p q j : ℕ) → stageFits S p q j ≡ true → j ≡ 0 → (q ≡ p → ⊥) → OneApart p q
+unfolding stageFits
+one-apart S p q j e z n = go (eqb q p) refl (eqb (q + 1) p) refl (rw z at e)
+  where
+    go : (a : Bool) → eqb q p ≡ a → (b : Bool) → eqb (q + 1) p ≡ b → (a || (b || eqb q (p + 1))) ≡ true → OneApart p q
+    go true f b g e = absurd (n (eqb-true q p f))
+    go false f true g e = oneLess (eqb-true (q + 1) p g)
+    go false f false g e = oneMore (eqb-true q (p + 1) e)
+
+-- ---- lent room
+pub room-bits : (n k : ℕ) → bytesFor n ≤ k → n ≤ 8 * k
+room-bits n k h = omega arith
+
+pub room-enough : (st : Rebuilder) (n : ℕ) (r : Rooms) → roomFor st n r ≡ true → (bytesFor n ≤ r .string) × (8 ≤ r .question)
+room-enough st n r e =
+    let a = and-left (leb (bytesFor n) (r .string)) _ e in
+    let b = and-right (leb (bytesFor n) (r .string)) _ e in
+    (leb-true (bytesFor n) (r .string) a, leb-true 8 (r .question) (and-right (leb (2 * (n / st .settings .m) + 1) (r .sheet)) _ b))
+
+-- ---- what was read
+module _ (st : Rebuilder) (msg : List ℕ) (len : ℕ) (read : AnswerRead) (d : Due st msg len read) where
+  framed-now : Framed st
+  framed-now = sound-is st (d .sound-now) .0
+
+  module _ (a : Answer) (v : answerValue msg len read ≡ some a) where
+    read-value : answerValue msg (questionLength (d .question)) (readAnswer (questionKind (d .question)) (questionLength (d .question)) (st .settings .h) msg) ≡ some a
+    read-value = ap₂ (answerValue msg) (sym (d .asked-length)) (sym (d .read-is)) ∙ v
+
+    proper-now : Proper (st .settings) (d .question) a
+    proper-now = answer-form (questionKind (d .question)) (questionLength (d .question)) (st .settings .h) msg a read-value .proper
+
+    kind-now : KindDue st (d .question) (questionLength (d .question)) (answerKind a)
+    kind-now = rw (proper-now .of-kind) (kind-due st (d .question) (phase-of st (d .question) (sound-is st (d .sound-now) .1) (d .asked)))
+
+    size-now : length msg ≡ sizeOf a
+    unfolding sizeOf
+    size-now = ap length (answer-form (questionKind (d .question)) (questionLength (d .question)) (st .settings .h) msg a read-value .bytes (d .bytes))
+
+    -- for the leftmost piece
+    piece-acting : ForPiece st (d .question) → (room : ℕ) → 8 ≤ room → Acting st (length msg) room
+    piece-acting k room h =
+        let ti = top-is st (k .pieces .stack) (k .some) in
+        let ins : Inside (st .n) (d .question) = rw (k .asks) at (ask-inside st (framed-now .limits) ti) in
+        let sh = sizes (st .settings) (st .n) (framed-now .size) (d .question) a ins proper-now in
+        let z = size-now in
+        record { sound-now = d .sound-now; array = d .array; phase = k .phase; some = k .some; short = omega arith; enough = h }
+
+  pub heard-size : (n : ℕ) → read ≡ IsSize n → (room : ℕ) → 8 ≤ room → Opening st n room
+  heard-size n f room h =
+      let v = ap (answerValue msg len) f in
+      record { sound-now = d .sound-now; array = d .array; phase = kind-now (sizeAnswer n) v; small = proper-now (sizeAnswer n) v .values; enough = h }
+
+  pub heard-hash : (v : ℕ) → read ≡ IsHash v → (room : ℕ) → 8 ≤ room → Acting st (length msg) room × ((st .stage ≡ 0) × (top st .q ≡ top st .p))
+  heard-hash v f room h =
+      let w = ap (answerValue msg len) f in
+      let k = kind-now (hashAnswer v) w in
+      (piece-acting (hashAnswer v) w (k .0) room h, (k .1, k .2))
+
+  pub heard-syndrome : (a v : ℕ) → read ≡ IsSyndrome a v → (room : ℕ) → 8 ≤ room → Acting st (length msg) room × ((st .stage ≡ 0) × OneApart (top st .p) (top st .q))
+  heard-syndrome a v f room h =
+      let w = ap (answerValue msg len) f in
+      let k = kind-now (syndromeAnswer a v) w in
+      let t = top-is st (k .0 .pieces .stack) (k .0 .some) in
+      (piece-acting (syndromeAnswer a v) w (k .0) room h, (k .1, one-apart (st .settings) (top st .p) (top st .q) (st .stage) (t .stage) (k .1) (k .2)))
+
+  -- the bits that were read
+  module _ (at : ℕ) (f : read ≡ IsBits at) where
+    abbrev bitsHeard : Answer
+    bitsHeard = bitsAnswer (range msg (8 * at) len)
+
+    bits-due : (dueLength st ≡ len) × ((st .phase ≡ 2) ⊎ (ForPiece st (d .question) × (0 < st .stage)))
+    bits-due = rw (d .asked-length) (kind-now bitsHeard (ap (answerValue msg len) f))
+
+    pub heard-bits : (room : ℕ) → 8 ≤ room → BitsDue st (length msg) room × (dueLength st ≡ len)
+    heard-bits room h = (record { phases = go (bits-due .1) }, bits-due .0)
+      where
+        go : (st .phase ≡ 2) ⊎ (ForPiece st (d .question) × (0 < st .stage)) → (WholeDue st (length msg) room) ⊎ (Acting st (length msg) room × (0 < st .stage))
+        go (inl p) =
+            let e : st .n ≡ len = sym (due-whole st p) ∙ bits-due .0 in
+            let r = range-length msg (8 * at) len in
+            let q = size-now bitsHeard (ap (answerValue msg len) f) in
+            let u = size-bits (range msg (8 * at) len) in
+            inl record { sound-now = d .sound-now; phase = p; short = omega arith; enough = h }
+        go (inr k) = inr (piece-acting bitsHeard (ap (answerValue msg len) f) (k .0) room h, k .1)
+
+    bits-there : BitsAt len msg at
+    bits-there =
+        let k = proper-now bitsHeard (ap (answerValue msg len) f) .of-kind in
+        rw (d .asked-length) (bits-read (questionLength (d .question)) (st .settings .h) msg at (ap (λ (x : Kind). readAnswer x (questionLength (d .question)) (st .settings .h) msg) k ∙ sym (d .read-is) ∙ f))
+
+  pub bits-inside : (at : ℕ) → read ≡ IsBits at → at ≤ length msg
+  bits-inside at f = bits-there at f .inside
+
+  -- a slice from byte at on
+  rest-whole : (at : ℕ) → take (length msg - at) (drop at msg) ≡ drop at msg
+  rest-whole at = let n = length-drop at msg in take-all (length msg - at) (drop at msg) (omega arith)
+
+  pub bits-long : (at : ℕ) → read ≡ IsBits at → dueLength st ≤ 8 * length (take (length msg - at) (drop at msg))
+  bits-long at f =
+      let e = heard-bits at f 8 (omega arith) .1 in
+      let b = bits-there at f .string .bytes in
+      let r = rest-whole at in
+      rw r (omega arith)
+
+  -- ---- what a taken answer leaves
+  pub read-said : {b : AnswerRead} → read ≡ b → (y s q : List ℕ) {x : RebuilderSaid} → x ≡ leavesRebuilder st s q (heardStep st y msg len b) → x ≡ leavesRebuilder st s q (heardStep st y msg len read)
+  read-said e y s q f = f ∙ ap (λ (z : AnswerRead). leavesRebuilder st s q (heardStep st y msg len z)) (sym e)
+
+  pub bits-said : (at : ℕ) → read ≡ IsBits at → (y s q : List ℕ) {x : RebuilderSaid}
+      → x ≡ leavesRebuilder st s q (stepTaken (stepOf st y (length msg) (bitsAnswer (range (take (length msg - at) (drop at msg)) 0 (dueLength st)))))
+      → x ≡ leavesRebuilder st s q (heardStep st y msg len read)
+  bits-said at f y s q g =
+      let e = heard-bits at f 8 (omega arith) .1 in
+      let r : range (take (length msg - at) (drop at msg)) 0 (dueLength st) ≡ range msg (8 * at) len = ap₂ (λ (t : List ℕ) (i : ℕ). range t 0 i) (rest-whole at) e ∙ sym (range-rest msg at len (bits-inside at f)) in
+      read-said f y s q (g ∙ ap (λ (l : List Bool). leavesRebuilder st s q (stepTaken (stepOf st y (length msg) (bitsAnswer l)))) r)
+
+  -- ---- in lent room
+  opening-phase : (n : ℕ) → read ≡ IsSize n → st .phase ≡ 0
+  opening-phase n f = heard-size n f 8 (omega arith) .phase
+
+  hash-phase : (v : ℕ) → read ≡ IsHash v → st .phase ≡ 0 → ⊥
+  hash-phase v f z = let p = heard-hash v f 8 (omega arith) .0 .phase in omega arith
+
+  syndrome-phase : (a v : ℕ) → read ≡ IsSyndrome a v → st .phase ≡ 0 → ⊥
+  syndrome-phase a v f z = let p = heard-syndrome a v f 8 (omega arith) .0 .phase in omega arith
+
+  bits-phase : (at : ℕ) → read ≡ IsBits at → st .phase ≡ 0 → ⊥
+  bits-phase at f z = go (heard-bits at f 8 (omega arith) .0 .phases)
+    where
+      go : (WholeDue st (length msg) 8) ⊎ (Acting st (length msg) 8 × (0 < st .stage)) → ⊥
+      go (inl w) = let p = w .phase in omega arith
+      go (inr a) = let p = a .0 .phase in omega arith
+
+  pub hears-short : (y : List ℕ) (r : Rooms) → answerRoom st r read ≡ false → hears st y msg r len read ≡ refuses NoRoom
+  hears-short y r e = go read refl e
+    where
+      go : (x : AnswerRead) → read ≡ x → answerRoom st r x ≡ false → hears st y msg r len x ≡ refuses NoRoom
+      go (IsSize n) f e = rw (eq-eqb (st .phase) 0 (opening-phase n f), e) refl
+      go (IsHash v) f e = rw (ne-eqb (st .phase) 0 (hash-phase v f), e) refl
+      go (IsSyndrome a v) f e = rw (ne-eqb (st .phase) 0 (syndrome-phase a v f), e) refl
+      go (IsBits at) f e = rw (ne-eqb (st .phase) 0 (bits-phase at f), e) refl
+      go (NoAnswer x) f e = absurd (true-false e)
+
+  pub hears-long : (y : List ℕ) (r : Rooms) → answerRoom st r read ≡ true → hears st y msg r len read ≡ heardStep st y msg len read
+  hears-long y r e = go read refl e
+    where
+      go : (x : AnswerRead) → read ≡ x → answerRoom st r x ≡ true → hears st y msg r len x ≡ heardStep st y msg len x
+      go (IsSize n) f e = rw (eq-eqb (st .phase) 0 (opening-phase n f), e) refl
+      go (IsHash v) f e = rw (ne-eqb (st .phase) 0 (hash-phase v f), e) refl
+      go (IsSyndrome a v) f e = rw (ne-eqb (st .phase) 0 (syndrome-phase a v f), e) refl
+      go (IsBits at) f e = rw (ne-eqb (st .phase) 0 (bits-phase at f), e) refl
+      go (NoAnswer x) f e = refl
+
+  pub enough-for : (r : Rooms) → answerRoom st r read ≡ true → {b : AnswerRead} → read ≡ b → answerRoom st r b ≡ true
+  enough-for r e f = sym (ap (answerRoom st r) f) ∙ e
+
+pub whole-small : (st : Rebuilder) (size room : ℕ) → BitsDue st size room → size < 4294967296
+whole-small st size room k = go (k .phases)
+  where
+    go : (WholeDue st size room) ⊎ (Acting st size room × (0 < st .stage)) → size < 4294967296
+    go (inl w) = let s = w .short in let n = sound-is st (w .sound-now) .0 .size in omega arith
+    go (inr a) = let s = size-most st size room (a .0) in omega arith
+
+pub acting-small : (st : Rebuilder) (size room : ℕ) → Acting st size room → size < 4294967296
+acting-small st size room k = let s = size-most st size room k in omega arith
+
+-- ---- the message for the question that waits
+module _ (st : Rebuilder) (msg : List ℕ) (q : Question) {len : ℕ} {kind : Kind} {read : AnswerRead} (ln : len ≡ questionLength q) (kn : kind ≡ questionKind q) (rd : read ≡ readAnswer kind len (st .settings .h) msg) where
+  read-for : read ≡ readAnswer (questionKind q) (questionLength q) (st .settings .h) msg
+  read-for = rd ∙ ap₂ (λ (k : Kind) (l : ℕ). readAnswer k l (st .settings .h) msg) kn ln
+
+  pub due : sound st ≡ true → planned st ≡ some q → length (st .pieces) ≡ 32 → Bytes msg → Due st msg len read
+  due s p a b = record { sound-now = s; array = a; bytes = b; question = q; asked = p; asked-length = ln; read-is = read-for }
+
+  pub awaits-hears : (y : List ℕ) (r : Rooms) → awaits st y msg r (some q) ≡ hears st y msg r len read
+  awaits-hears y r = ap₂ (hears st y msg r) (sym ln) (sym read-for)
+
+pub taken-said : (st : Rebuilder) (s q : List ℕ) {a b : Taken} {x : RebuilderSaid} → a ≡ b → x ≡ leavesRebuilder st s q b → x ≡ leavesRebuilder st s q a
+taken-said st s q e f = f ∙ ap (leavesRebuilder st s q) (sym e)
+
+pub refused-said : (st : Rebuilder) (e : Refusal) (s q : List ℕ) {r : RebuilderOut} {a : Taken} → r ≡ turnedDown e st → a ≡ refuses e → saidRebuilder r s q ≡ leavesRebuilder st s q a
+refused-said st e s q f g = ap (λ (z : RebuilderOut). saidRebuilder z s q) f ∙ ap (leavesRebuilder st s q) (sym g)
+
+pub copy-there : (st : Rebuilder) (y : List ℕ) (bits : ℕ) → (stringRule y bits && eqb (st .ybits) bits) ≡ true → st .ybits ≤ 8 * length y
+copy-there st y bits e =
+    let s = rule-is y bits (and-left (stringRule y bits) (eqb (st .ybits) bits) e) .bytes in
+    let b = eqb-true (st .ybits) bits (and-right (stringRule y bits) (eqb (st .ybits) bits) e) in
+    omega arith
+
+-- ---- the tests of the call
+module _ (st : Rebuilder) (y : List ℕ) (bits : ℕ) (msg : List ℕ) (r : Rooms) where
+  pub call-bad-string : (stringRule y bits && eqb (st .ybits) bits) ≡ false → rebuilderCall st y bits msg r ≡ refuses BadString
+  unfolding rebuilderCall
+  call-bad-string e = rw e refl
+
+  module _ (e : (stringRule y bits && eqb (st .ybits) bits) ≡ true) where
+    pub call-unsound : sound st ≡ false → rebuilderCall st y bits msg r ≡ refuses OutOfTurn
+    unfolding rebuilderCall
+    call-unsound f = rw (e, f) refl
+
+    pub call-awaits : sound st ≡ true → {o : Option Question} → planned st ≡ o → rebuilderCall st y bits msg r ≡ awaits st y msg r o
+    unfolding rebuilderCall
+    call-awaits f g = rw (e, f, g) refl
+
+-- ---- the start
+pub not-begun-out : (e : Refusal) {st : Rebuilder} → st ≡ noRebuilder → _≡_ {A = StartOut} (record { answer = NotBegun e; state = st }) (record { answer = NotBegun e; state = noRebuilder })
+not-begun-out e f = (λ i. record { answer = NotBegun e; state = f i })
+
+module _ (S : Settings) (y : List ℕ) (bits : ℕ) (q : List ℕ) where
+  abbrev started : Started
+  started = rebuilderStart S y bits (length q)
+
+  pub start-refused : (e : Refusal) {o : StartOut} → o ≡ record { answer = NotBegun e; state = noRebuilder } → started ≡ startDeclines e → saidStart o q ≡ leavesStart q started
+  start-refused e f g = ap (λ (z : StartOut). saidStart z q) f ∙ ap (leavesStart q) (sym g)
+
+  pub start-bad-setting : withinLimits S ≡ false → started ≡ startDeclines BadSetting
+  unfolding rebuilderStart
+  start-bad-setting e = rw e refl
+
+  module _ (a : withinLimits S ≡ true) where
+    pub start-bad-string : stringRule y bits ≡ false → started ≡ startDeclines BadString
+    unfolding rebuilderStart
+    start-bad-string e = rw (a, e) refl
+
+    module _ (b : stringRule y bits ≡ true) where
+      pub start-no-room : length q < 8 → started ≡ startDeclines NoRoom
+      unfolding rebuilderStart
+      start-no-room h = rw (a, b, lt-leb 8 (length q) h) refl
+
+      pub start-small : bits < 4294967296
+      start-small = let s = rule-is y bits b .few in omega arith
+
+      module _ (h : 8 ≤ length q) where
+        begins : started ≡ starts (freshRebuilder S bits) (questionBytes (AskOpen (S .h) (S .key)))
+        unfolding rebuilderStart
+        begins = rw (a, b, le-leb 8 (length q) h) refl
+
+        opening-short : length (questionBytes (AskOpen (S .h) (S .key))) ≤ 8
+        unfolding planned
+        opening-short = question-short (freshRebuilder S bits) (AskOpen (S .h) (S .key)) (fresh-sound S bits (limits-is S a) (rule-is y bits b .few) .0) refl
+
+        module _ {w : WriteResult} {q′ : List ℕ} (wr : leaves w q′ ≡ putFront (questionBytes (AskOpen (S .h) (S .key))) q) where
+          opening-fits : leaves w q′ ≡ leaves (Written (length (questionBytes (AskOpen (S .h) (S .key))))) (atFront (questionBytes (AskOpen (S .h) (S .key))) q)
+          opening-fits = let o = opening-short in wr ∙ put-fits (questionBytes (AskOpen (S .h) (S .key))) q (omega arith)
+
+          pub start-fits : w ≡ TooShort → ⊥
+          start-fits e = let f = opening-fits in let n : _≡_ {A = ℕ} 0 1 = cc in omega arith
+
+          pub start-begun : {size : ℕ} → w ≡ Written size → {st : Rebuilder} → st ≡ freshRebuilder S bits → saidStart (record { answer = Begun size; state = st }) q′ ≡ leavesStart q started
+          start-begun {size} e {st} f =
+              let g = opening-fits in
+              let n : size ≡ length (questionBytes (AskOpen (S .h) (S .key))) = cc in
+              let o : q′ ≡ atFront (questionBytes (AskOpen (S .h) (S .key))) q = cc in
+              (λ i. record { answer = value (n i); state = f i; question = o i }) ∙ ap (leavesStart q) (sym begins)

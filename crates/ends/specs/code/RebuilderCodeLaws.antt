@@ -1,0 +1,498 @@
+-- Laws for the proofs of src/steps.rt and src/rebuilding.rt.
+use mathlib.Core.Path.{_≡_, refl, sym, ap, ap₂, _∙_, subst}
+use mathlib.Core.Bool.{Bool, true, false}
+use mathlib.Core.Logic.{inl, inr}
+use mathlib.Core.List.{List, [], _∷_}
+use mathlib.Core.Option.{Option, none, some}
+use Prim.Native.Nat.{ℕ, zero, suc, _+_, _-_, _*_, max, _≤_, _<_}
+use native.Mathlib.Omega.{arith}
+use lib.ListN.{length}
+use lib.Dec.{leb, eqb, lit≤}
+use borrow.Author.Tests.{eq-eqb, ne-eqb}
+use Rattle.strings.specs.laws.Tests.{by-test}
+use Rattle.strings.specs.Bits.{range, writeBits, Part, atFront}
+use Rattle.strings.specs.laws.RangeLaws.{range-length}
+use Rattle.codes.specs.declared.edits.Edit.{Edit}
+use Rattle.codes.specs.declared.edits.Edit.the-variants.{Keep}
+use Rattle.codes.specs.declared.edits.Repair.{Repair}
+use Rattle.codes.specs.declared.edits.Repair.the-variants.{Found, Nothing}
+use Rattle.codes.specs.Hash.{hash}
+use Rattle.codes.specs.Repair.{putIn, takeOut, repairTo}
+use Rattle.codes.specs.code.Edits.{edited, Fits, Editable, repairEdit}
+use Rattle.codes.specs.laws.RepairLaws.{repair-put-in, repair-take-out}
+use Rattle.codes.specs.laws.EditLaws.{repair-found, repair-nothing, repair-fits}
+use Rattle.messages.specs.declared.Question.{Question}
+use Rattle.messages.specs.declared.Question.the-variants.{AskHash, AskSyndrome, AskBits}
+use Rattle.messages.specs.declared.WriteResult.{WriteResult}
+use Rattle.messages.specs.declared.WriteResult.the-variants.{Written, TooShort}
+use Rattle.messages.specs.Questions.{questionBytes}
+use Rattle.messages.specs.laws.QuestionLaws.{InRange, question-size, question-some}
+use Rattle.codes.specs.Entries.{Answer as Outcome, value}
+use Rattle.messages.specs.Answers.{Answer, hashAnswer, syndromeAnswer, bitsAnswer}
+use Rattle.messages.specs.Writing.{leaves, putFront}
+use Rattle.messages.specs.laws.WritingLaws.{put-fits}
+use Rattle.strings.specs.declared.settings.Settings.{Settings}
+use Rattle.ends.specs.declared.How.{How}
+use Rattle.ends.specs.declared.How.the-variants.{ByHash, ByAnchor, ByBits}
+use Rattle.ends.specs.declared.Piece.{Piece}
+use Rattle.ends.specs.declared.Rebuilder.{Rebuilder}
+use Rattle.ends.specs.declared.SheetChange.{SheetChange}
+use Rattle.ends.specs.declared.SheetChange.the-variants.{NoRow, AddRow}
+use Rattle.ends.specs.laws.Moves.{moved-effect}
+use Rattle.ends.specs.Segments.{Stage, placed, middle, laterStage, hashing, anchors, Effect, settles, stays, splits, effect, trialOf, retry, hashOf, row, howNumber}
+use Rattle.ends.specs.laws.Right.{Fit}
+use Rattle.ends.specs.States.{top, popped, restaged, retried, splitAt, planned, askFor, anchorOffset}
+use Rattle.ends.specs.Soundness.{sound, stageFits}
+use Rattle.ends.specs.laws.SoundLaws.{fits-stage}
+use Rattle.ends.specs.laws.SoundParts.{stage-big, Framed, sound-is, PiecesIs, pieces-is, phase-pieces, TopIs, top-is, ask-inside, PhaseOf, isOpening, isPieces, isWhole, phase-of, offset-within}
+use Rattle.ends.specs.laws.SoundSteps.{tallied-sound, effect-tally}
+use Rattle.ends.specs.laws.Delivery.{NotOpen, inside-range}
+use Rattle.ends.specs.Anchors.{place, Best, fits as anchorFits, away}
+use Rattle.ends.specs.laws.AnchorLaws.{place-best}
+use Rattle.ends.specs.laws.Steps.{step-pieces}
+use Rattle.ends.specs.RebuilderCall.{tallied, Step, effectStep, stepOf, stringAfter, writtenQuestion, numberedStage}
+use Rattle.ends.specs.declared.anchors.Place.{Place}
+use Rattle.ends.specs.declared.anchors.Place.the-variants.{At, Nowhere}
+use Rattle.ends.specs.AnchorSearch.{placeIn}
+use Rattle.ends.specs.code.Window.{Ready}
+use Rattle.ends.specs.declared.state.Plan.{Plan}
+use Rattle.ends.specs.declared.state.Plan.the-variants.{Ask, Finished}
+use Rattle.ends.specs.declared.rebuilding.RebuilderAnswer.{RebuilderAnswer}
+use Rattle.ends.specs.declared.rebuilding.RebuilderAnswer.the-variants.{Asks}
+use Rattle.ends.specs.declared.rebuilding.RebuilderOut.{RebuilderOut}
+use Rattle.ends.specs.code.StateCode.{Usable, Holds, Stages, Retries, Splits, Counts, Offsets, planOf}
+use Rattle.ends.specs.code.SoundLaws.{sound-counts}
+use Rattle.ends.specs.RebuilderOutcome.{callSaid, nextSize, RebuilderSaid, saidRebuilder, leavesRebuilder}
+use Rattle.ends.specs.code.RebuilderParts.{nextAnswer, OutIs, Acting, Splitting, stepTaken, trialStep, OneApart, oneLess, oneMore, repairHow}
+
+-- ---- the question that a sound state writes
+not-open : (m j : ℕ) (t : Piece) → NotOpen (askFor m j t)
+unfolding askFor
+not-open m j t =
+    by-test NotOpen (eqb j 0)
+    (λ e. by-test NotOpen (eqb (t .q) (t .p)) {a = AskHash (t .x) (t .p)} {b = AskSyndrome (t .x) (t .p)} (λ f. tt) (λ f. tt))
+    (λ e. by-test NotOpen (leb 4 j) {a = AskBits (t .x) (t .p)} {b = AskBits (t .x + anchorOffset m (t .p) j) m} (λ f. tt) (λ f. tt))
+
+pub question-range : (s : Rebuilder) (q : Question) → sound s ≡ true → planned s ≡ some q → InRange (max 1 (s .n)) q × (s .n ≤ 65536)
+question-range s q e k = let f = sound-is s e in go (f .0) (phase-of s q (f .1) k)
+  where
+    go : Framed s → PhaseOf s q → InRange (max 1 (s .n)) q × (s .n ≤ 65536)
+    go f (isOpening p i d) =
+        let L = f .limits in
+        (rw (← d) record { within = record { h-least = L .h-least; h-most = L .h-most; key-least = L .key-least }; key-most = L .key-most }, f .size)
+    go f (isPieces p i w d) =
+        let t = top-is s (i .stack) w in
+        let ins = ask-inside s (f .limits) t in
+        let a = t .some in let b = t .inX in
+        let e : max 1 (s .n) ≡ s .n = omega arith in
+        (rw (← d) (rw e (inside-range (s .n) (askFor (s .settings .m) (s .stage) (top s)) (not-open (s .settings .m) (s .stage) (top s)) ins)), f .size)
+    go f (isWhole p i d) =
+        let t = top-is s (i .stack) (i .some) in
+        let a = t .some in let b = t .inX in
+        (rw (← d) (inside-range (max 1 (s .n)) (AskBits 0 (s .n)) tt (omega arith, omega arith)), f .size)
+
+pub question-short : (s : Rebuilder) (q : Question) → sound s ≡ true → planned s ≡ some q → length (questionBytes q) ≤ 8
+question-short s q e k = let r = question-range s q e k in let n = r .1 in question-size (max 1 (s .n)) q (omega arith) (r .0)
+
+next-said : (m : List ℕ) → callSaid (nextAnswer m) ≡ value (nextSize m)
+next-said [] = refl
+next-said (b ∷ m) = refl
+
+next-asks : (m : List ℕ) → 0 < length m → nextAnswer m ≡ Asks (length m)
+next-asks [] h = absurd (omega arith)
+next-asks (b ∷ m) h = refl
+
+abbrev pub given : (m : List ℕ) → Rebuilder → SheetChange → RebuilderOut
+given m s k = record { answer = nextAnswer m; state = s; sheet = k; answered = s .answered; counted = s .counted }
+
+pub none-planned : (o : Option Question) → planOf o ≡ Finished → o ≡ none
+none-planned none z = refl
+none-planned (some q) z = let w : _≡_ {A = ℕ} 0 1 = cc in absurd (omega arith)
+
+pub some-planned : (o : Option Question) (q : Question) → planOf o ≡ Ask q → o ≡ some q
+some-planned none q z = let w : _≡_ {A = ℕ} 0 1 = cc in absurd (omega arith)
+some-planned (some r) q z = let d : r ≡ q = cc in ap some d
+
+module _ (s : Rebuilder) (k : SheetChange) (buf : List ℕ) (e : sound s ≡ true) (room : 8 ≤ length buf) {p : Plan} (pl : p ≡ planOf (planned s)) where
+  pub finished-out : p ≡ Finished → (r : RebuilderOut) → r ≡ given [] s k → OutIs r s k buf buf
+  finished-out z r f =
+      let n : planned s ≡ none = none-planned (planned s) (sym pl ∙ z) in
+      record { out = f ∙ sym (ap (λ (o : Option Question). given (writtenQuestion o) s k) n); question = sym (ap (λ (o : Option Question). atFront (writtenQuestion o) buf) n) }
+
+  module _ {q : Question} (z : p ≡ Ask q) {w : WriteResult} {buf′ : List ℕ} (wr : leaves w buf′ ≡ putFront (questionBytes q) buf) where
+    fits : leaves w buf′ ≡ leaves (Written (length (questionBytes q))) (atFront (questionBytes q) buf)
+    fits = let h = question-short s q e (some-planned (planned s) q (sym pl ∙ z)) in wr ∙ put-fits (questionBytes q) buf (omega arith)
+
+    pub short-out : w ≡ TooShort → ⊥
+    short-out y = let f = fits in let n : _≡_ {A = ℕ} 0 1 = cc in omega arith
+
+    pub asked-out : {size : ℕ} → w ≡ Written size → (r : RebuilderOut) → r ≡ record { answer = Asks size; state = s; sheet = k; answered = s .answered; counted = s .counted } → OutIs r s k buf buf′
+    asked-out {size} y r g =
+        let f = fits in
+        let n : planned s ≡ some q = some-planned (planned s) q (sym pl ∙ z) in
+        let a : size ≡ length (questionBytes q) = cc in
+        let b : buf′ ≡ atFront (questionBytes q) buf = cc in
+        record {
+          out = g ∙ ap (λ (i : ℕ). record { answer = Asks i; state = s; sheet = k; answered = s .answered; counted = s .counted }) a
+              ∙ ap (λ (x : RebuilderAnswer). record { answer = x; state = s; sheet = k; answered = s .answered; counted = s .counted }) (sym (next-asks (questionBytes q) (question-some q)))
+              ∙ sym (ap (λ (o : Option Question). given (writtenQuestion o) s k) n);
+          question = b ∙ sym (ap (λ (o : Option Question). atFront (writtenQuestion o) buf) n);
+        }
+
+-- ---- what is known of a state that takes an answer for its leftmost piece
+module _ (st : Rebuilder) (size room : ℕ) (k : Acting st size room) where
+  pub framed : Framed st
+  framed = sound-is st (k .sound-now) .0
+
+  pub pieces : PiecesIs st
+  pieces = pieces-is st (sym (phase-pieces st (k .phase)) ∙ sound-is st (k .sound-now) .1)
+
+  pub topped : TopIs st
+  topped = top-is st (pieces .stack) (k .some)
+
+  pub holds : Holds st
+  holds = record { some = k .some; few = framed .few }
+
+  usable : Usable (st .settings)
+  usable = let L = framed .limits in record { m-most = L .m-most; h-most = L .h-most }
+
+  pub popped-stages : Stages (popped st)
+  unfolding popped
+  popped-stages = let f = framed .few in record { usable = usable; few = omega arith }
+
+  pub retries : st .stage < 4 → Retries st
+  retries h = record { usable = usable; some = k .some; few = framed .few; early = h }
+
+  pub size-most : size ≤ 8194
+  size-most = let s = k .short in let n = framed .size in omega arith
+
+  counts : (rows : ℕ) → rows ≤ 1 → Counts st size rows
+  counts rows h = let s = size-most in sound-counts st (k .sound-now) size rows (omega arith) h
+
+  pub settled-counts : Counts (restaged (popped st)) size 1
+  unfolding restaged popped
+  settled-counts = let q = counts 1 (lit≤ tt) in record { answered = q .answered; counted = q .counted; used = q .used }
+
+  pub retried-counts : Counts (retried st) size 0
+  unfolding retried
+  retried-counts = let q = counts 0 (lit≤ tt) in record { answered = q .answered; counted = q .counted; used = q .used }
+
+  few : st .waiting < 32
+  few = topped .few
+
+  -- a list as long as the leftmost piece's copy
+  abbrev some-copy : List Bool
+  some-copy = range [] 0 (top st .q)
+
+  pub settled-sound : sound (tallied (restaged (popped st)) size 1) ≡ true
+  settled-sound =
+      tallied-sound (restaged (popped st)) size 1
+      (effect-tally st (k .array) framed pieces (k .some) few size (k .short) some-copy hashing (settles ByHash []) (range-length [] 0 (top st .q)) tt tt tt)
+
+  pub retried-sound : st .stage < 4 → sound (tallied (retried st) size 0) ≡ true
+  retried-sound h =
+      tallied-sound (retried st) size 0
+      (effect-tally st (k .array) framed pieces (k .some) few size (k .short) some-copy hashing (stays (anchors [])) (range-length [] 0 (top st .q)) (lit≤ tt) tt h)
+
+  module _ (s r : ℕ) (g : Splitting st s r) where
+    fit : Fit (st .settings) (top st .p) s
+    unfolding anchorOffset
+    fit = rw (g .offset) (offset-fit (st .stage) (g .later) (g .early) (topped .stage))
+      where
+        offset-fit : (j : ℕ) → 0 < j → j < 4 → stageFits (st .settings) (top st .p) (top st .q) j ≡ true → Fit (st .settings) (top st .p) (anchorOffset (st .settings .m) (top st .p) j)
+        offset-fit zero a b e = absurd (omega arith)
+        offset-fit (suc zero) a b e = fits-stage (st .settings) (framed .limits) (top st .p) (top st .q) 1 e .0
+        offset-fit (suc (suc zero)) a b e = fits-stage (st .settings) (framed .limits) (top st .p) (top st .q) 2 e .0
+        offset-fit (suc (suc (suc zero))) a b e = fits-stage (st .settings) (framed .limits) (top st .p) (top st .q) 3 e .0
+        offset-fit (suc (suc (suc (suc j)))) a b e = absurd (omega arith)
+
+    pub split-sound : sound (tallied (splitAt st s r) size 1) ≡ true
+    split-sound =
+        let q = range-length [] 0 (top st .q) in
+        let p = g .placed in
+        tallied-sound (splitAt st s r) size 1
+        (effect-tally st (k .array) framed pieces (k .some) few size (k .short) some-copy hashing (splits s r []) q (fit, lit≤ tt) (omega arith) (g .early))
+
+    pub split-counts : Counts (splitAt st s r) size 1
+    split-counts =
+        let q = counts 1 (lit≤ tt) in
+        let m = moved-effect (st .settings) st refl (k .array) (k .some) few (splits s r []) in
+        record { answered = rw (m .answered) (q .answered); counted = rw (m .counted) (q .counted); used = rw (m .rows) (q .used) }
+
+    pub split-start : top st .x + s < 4294967296
+    split-start = let f = fit in let fr = f .room in let a = topped .inX in let n = framed .size in omega arith
+
+    pub splitting : Splits st s r
+    splitting =
+        let f = fit in let a = topped .inX in let b = topped .inY in let n = framed .size in let y = framed .copy in
+        record { usable = usable; some = k .some; few = few; in-x = f .room; in-y = g .placed; x-most = omega arith; y-most = omega arith }
+
+-- ---- what the parts give
+out-to : {r : RebuilderOut} {s s′ : Rebuilder} {k k′ : SheetChange} {q q′ : List ℕ} → s ≡ s′ → k ≡ k′ → OutIs r s k q q′ → OutIs r s′ k′ q q′
+out-to {r} {s} {s′} {k} {k′} {q} {q′} e f o = subst (λ (z : Rebuilder). OutIs r z k′ q q′) e (subst (λ (z : SheetChange). OutIs r s z q q′) f o)
+
+pub settled-out : (st : Rebuilder) (size : ℕ) (how : How) {t : Piece} {one two s : Rebuilder} {number : ℕ} {r : RebuilderOut} {q q′ : List ℕ}
+    → t ≡ top st → one ≡ popped st → two ≡ restaged one → s ≡ tallied two size 1 → number ≡ howNumber how
+    → OutIs r s (AddRow (st .rows) (record { start = t .x; len = t .p; how = number })) q q′
+    → OutIs r (tallied (restaged (popped st)) size 1) (AddRow (st .rows) (row (top st .x) (top st .p) how)) q q′
+settled-out st size how a b c d n o =
+    out-to (d ∙ ap (λ (z : Rebuilder). tallied z size 1) (c ∙ ap restaged b)) (ap₂ (λ (z : Piece) (i : ℕ). AddRow (st .rows) (record { start = z .x; len = z .p; how = i })) a n) o
+
+pub retried-out : (st : Rebuilder) (size : ℕ) {one s : Rebuilder} {k : SheetChange} {r : RebuilderOut} {q q′ : List ℕ}
+    → one ≡ retried st → s ≡ tallied one size 0 → OutIs r s k q q′ → OutIs r (tallied (retried st) size 0) k q q′
+retried-out st size a b o = out-to (b ∙ ap (λ (z : Rebuilder). tallied z size 0) a) refl o
+
+pub split-out : (st : Rebuilder) (size s r : ℕ) {t : Piece} {one next : Rebuilder} {o : RebuilderOut} {q q′ : List ℕ}
+    → t ≡ top st → one ≡ splitAt st s r → next ≡ tallied one size 1
+    → OutIs o next (AddRow (st .rows) (record { start = t .x + s; len = st .settings .m; how = 4 })) q q′
+    → OutIs o (tallied (splitAt st s r) size 1) (AddRow (st .rows) (row (top st .x + s) (st .settings .m) ByAnchor)) q q′
+split-out st size s r a b c o =
+    out-to (c ∙ ap (λ (z : Rebuilder). tallied z size 1) b) (ap (λ (z : Piece). AddRow (st .rows) (record { start = z .x + s; len = st .settings .m; how = 4 })) a) o
+
+-- ---- from the parts to the whole
+pub out-said : (st : Rebuilder) (k : Step) (s : List ℕ) {r : RebuilderOut} {s′ q q′ : List ℕ} → OutIs r (k .state) (k .sheet) q q′ → s′ ≡ stringAfter s (k .string) → saidRebuilder r s′ q′ ≡ leavesRebuilder st s q (stepTaken k)
+out-said st k s {r} {s′} {q} {q′} o e =
+    (λ i. saidRebuilder (o .out i) (e i) (o .question i))
+    ∙ ap (λ (a : Outcome (Option ℕ)). record { answer = a; state = k .state; sheet = k .sheet; answered = k .state .answered; counted = k .state .counted; string = stringAfter s (k .string); question = atFront (writtenQuestion (planned (k .state))) q }) (next-said (writtenQuestion (planned (k .state))))
+
+-- a step that is another's
+pub step-said : (st : Rebuilder) {j k : Step} {x : RebuilderSaid} (s q : List ℕ) → j ≡ k → x ≡ leavesRebuilder st s q (stepTaken k) → x ≡ leavesRebuilder st s q (stepTaken j)
+step-said st s q e f = f ∙ ap (λ (z : Step). leavesRebuilder st s q (stepTaken z)) (sym e)
+
+pub waiting-said : (st : Rebuilder) (size : ℕ) (t : Stage) (s : List ℕ) {r : RebuilderOut} {q q′ : List ℕ} → OutIs r (tallied (retried st) size 0) NoRow q q′
+    → saidRebuilder r s q′ ≡ leavesRebuilder st s q (stepTaken (effectStep st size (stays t)))
+unfolding effectStep
+waiting-said st size t s o = out-said st (effectStep st size (stays t)) s o refl
+
+pub settled-said : (st : Rebuilder) (size : ℕ) (how : How) (b : List Bool) (s : List ℕ) {r : RebuilderOut} {s′ q q′ : List ℕ}
+    → OutIs r (tallied (restaged (popped st)) size 1) (AddRow (st .rows) (row (top st .x) (top st .p) how)) q q′ → s′ ≡ writeBits s (top st .x) b
+    → saidRebuilder r s′ q′ ≡ leavesRebuilder st s q (stepTaken (effectStep st size (settles how b)))
+unfolding effectStep
+settled-said st size how b s o e = out-said st (effectStep st size (settles how b)) s o e
+
+pub split-said : (st : Rebuilder) (size x p : ℕ) (b : List Bool) (s : List ℕ) {r : RebuilderOut} {s′ q q′ : List ℕ}
+    → OutIs r (tallied (splitAt st x p) size 1) (AddRow (st .rows) (row (top st .x + x) (st .settings .m) ByAnchor)) q q′ → s′ ≡ writeBits s (top st .x + x) b
+    → saidRebuilder r s′ q′ ≡ leavesRebuilder st s q (stepTaken (effectStep st size (splits x p b)))
+unfolding effectStep
+split-said st size x p b s o e = out-said st (effectStep st size (splits x p b)) s o e
+
+-- ---- a trial
+module _ (st : Rebuilder) (y : List ℕ) (size v : ℕ) (how : How) (e : Edit) {t : Piece} (tp : t ≡ top st) {g : ℕ} (hg : g ≡ hash (st .settings .h) (st .settings .key) (edited e (range y (t .y) (t .q)))) where
+  hashed : g ≡ hashOf (st .settings) (edited e (range y (top st .y) (top st .q)))
+  unfolding hashOf
+  hashed = hg ∙ ap (λ (z : Piece). hash (st .settings .h) (st .settings .key) (edited e (range y (z .y) (z .q)))) tp
+
+  pub try-no : (g ≡ v → ⊥) → (s : List ℕ) {r : RebuilderOut} {q q′ : List ℕ} → OutIs r (tallied (retried st) size 0) NoRow q q′
+      → saidRebuilder r s q′ ≡ leavesRebuilder st s q (stepTaken (trialStep st y size v how e))
+  try-no n s o =
+      let f : eqb (hashOf (st .settings) (edited e (range y (top st .y) (top st .q)))) v ≡ false = ne-eqb _ v (λ z. n (hashed ∙ z)) in
+      rw f (waiting-said st size (laterStage (st .settings) (top st .p) (length (range y (top st .y) (top st .q)))) s o)
+
+  pub try-yes : g ≡ v → (s : List ℕ) {r : RebuilderOut} {s′ q q′ : List ℕ} → s′ ≡ writeBits s (t .x) (edited e (range y (t .y) (t .q)))
+      → OutIs r (tallied (restaged (popped st)) size 1) (AddRow (st .rows) (row (top st .x) (top st .p) how)) q q′
+      → saidRebuilder r s′ q′ ≡ leavesRebuilder st s q (stepTaken (trialStep st y size v how e))
+  try-yes n s w o =
+      let f : eqb (hashOf (st .settings) (edited e (range y (top st .y) (top st .q)))) v ≡ true = eq-eqb _ v (sym hashed ∙ n) in
+      rw f (settled-said st size how (edited e (range y (top st .y) (top st .q))) s o (w ∙ ap (λ (z : Piece). writeBits s (z .x) (edited e (range y (z .y) (z .q)))) tp))
+
+-- ---- ranges of the leftmost piece
+module _ (st : Rebuilder) (size room : ℕ) (k : Acting st size room) {t : Piece} (tp : t ≡ top st) where
+  pub copy-part : (y : List ℕ) → st .ybits ≤ 8 * length y → Part y (t .y) (t .q)
+  copy-part y h = let a = topped st size room k .inY in let b = framed st size room k .copy in rw tp record { there = omega arith; few = omega arith }
+
+  pub text-part : (s : List ℕ) → st .n ≤ 8 * length s → Part s (t .x) (t .p)
+  text-part s h = let a = topped st size room k .inX in let b = framed st size room k .size in rw tp record { there = omega arith; few = omega arith }
+
+  pub editable : (y : List ℕ) (e : Edit) → st .ybits ≤ 8 * length y → Fits e (top st .q) (top st .p) → Editable y (t .y) (t .q) e (t .p)
+  editable y e h f = record { part = copy-part y h; fits = rw tp f }
+
+  pub narrow : st .settings .h ≤ 32
+  narrow = framed st size room k .limits .h-most
+
+  pub copy-short : t .q < 65537
+  copy-short = let a = topped st size room k .inY in let b = framed st size room k .copy in rw tp (omega arith)
+
+  pub piece-part : (bits : List ℕ) → top st .p ≤ 8 * length bits → Part bits 0 (t .p)
+  piece-part bits h = let a = topped st size room k .inX in let b = framed st size room k .size in rw tp record { there = omega arith; few = omega arith }
+
+  pub piece-text : (s bits : List ℕ) {s′ : List ℕ} → s′ ≡ writeBits s (t .x) (range bits 0 (t .p)) → s′ ≡ writeBits s (top st .x) (range bits 0 (top st .p))
+  piece-text s bits e = e ∙ ap (λ (z : Piece). writeBits s (z .x) (range bits 0 (z .p))) tp
+
+  pub anchor-part : (bits : List ℕ) → st .settings .m ≤ 8 * length bits → Part bits 0 (st .settings .m)
+  anchor-part bits h = let m = framed st size room k .limits .m-most in record { there = omega arith; few = omega arith }
+
+-- an anchor that is placed splits, one that is not leaves the piece at the stage t
+abbrev pub placedOr : ℕ → List Bool → Stage → Option ℕ → Effect
+placedOr s b t none = stays t
+placedOr s b t (some r) = splits s r b
+
+placed-or : (s : ℕ) (b : List Bool) (l : List ℕ) (o : Option ℕ) → placed s b l o ≡ placedOr s b (anchors l) o
+placed-or s b l none = refl
+placed-or s b l (some r) = refl
+
+stage-anchor : (S : Settings) (b : List Bool) (p q : ℕ) (ys : List Bool) (j : ℕ) → 0 < j → j < 4
+    → (t : Stage) × (effect S (bitsAnswer b) p ys (numberedStage S p q j) ≡ placedOr (anchorOffset (S .m) p j) b t (place (S .m) (S .k) p (anchorOffset (S .m) p j) ys b))
+unfolding effect anchorOffset
+stage-anchor S b p q ys zero h k = absurd (omega arith)
+stage-anchor S b p q ys (suc zero) h k = (_, placed-or (middle (S .m) p) b ((middle (S .m) p + S .m) ∷ (middle (S .m) p - S .m) ∷ []) (place (S .m) (S .k) p (middle (S .m) p) ys b))
+stage-anchor S b p q ys (suc (suc zero)) h k = (_, placed-or (middle (S .m) p + S .m) b ((middle (S .m) p - S .m) ∷ []) (place (S .m) (S .k) p (middle (S .m) p + S .m) ys b))
+stage-anchor S b p q ys (suc (suc (suc zero))) h k = (_, placed-or (middle (S .m) p - S .m) b [] (place (S .m) (S .k) p (middle (S .m) p - S .m) ys b))
+stage-anchor S b p q ys (suc (suc (suc (suc j)))) h k = absurd (omega arith)
+
+-- ---- which effect an answer has
+module _ (st : Rebuilder) (y : List ℕ) (size : ℕ) (ph : st .phase ≡ 1) where
+  abbrev copy : List Bool
+  copy = range y (top st .y) (top st .q)
+
+  at-stage : (a : Answer) (j : ℕ) → st .stage ≡ j → stepOf st y size a ≡ effectStep st size (effect (st .settings) a (top st .p) copy (numberedStage (st .settings) (top st .p) (top st .q) j))
+  at-stage a j e = step-pieces st y size a ph ∙ ap (λ (i : ℕ). effectStep st size (effect (st .settings) a (top st .p) copy (numberedStage (st .settings) (top st .p) (top st .q) i))) e
+
+  pub step-hash : (v : ℕ) → st .stage ≡ 0 → top st .q ≡ top st .p → stepOf st y size (hashAnswer v) ≡ trialStep st y size v ByHash Keep
+  unfolding effect
+  step-hash v e f = at-stage (hashAnswer v) 0 e ∙ rw (eq-eqb (top st .q) (top st .p) f) refl
+
+  module _ (a v : ℕ) (e : st .stage ≡ 0) {r : Repair} (rp : r ≡ repairEdit (top st .p) a copy) where
+    len : length copy ≡ top st .q
+    len = range-length y (top st .y) (top st .q)
+
+    repaired-put : top st .q + 1 ≡ top st .p → repairTo (top st .p) a copy ≡ putIn a copy
+    repaired-put h = let l = len in repair-put-in (top st .p) a copy (omega arith)
+
+    repaired-take : top st .q ≡ top st .p + 1 → repairTo (top st .p) a copy ≡ takeOut a copy
+    repaired-take h = let l = len in repair-take-out (top st .p) a copy (λ z. omega arith)
+
+    -- the effect is a trial of the repair, if there is one
+    repair-step : OneApart (top st .p) (top st .q)
+        → stepOf st y size (syndromeAnswer a v) ≡ effectStep st size (trialOf (st .settings) v (repairHow (top st .p) (top st .q)) (repairTo (top st .p) a copy) (retry (st .settings) (top st .p) copy))
+    unfolding effect repairHow
+    repair-step (oneLess h) =
+        at-stage (syndromeAnswer a v) 0 e
+        ∙ rw (ne-eqb (top st .q) (top st .p) (λ z. omega arith), eq-eqb (top st .q + 1) (top st .p) h, repaired-put h) refl
+    repair-step (oneMore h) =
+        at-stage (syndromeAnswer a v) 0 e
+        ∙ rw (ne-eqb (top st .q) (top st .p) (λ z. omega arith), ne-eqb (top st .q + 1) (top st .p) (λ z. omega arith), repaired-take h) refl
+
+    pub syndrome-found : OneApart (top st .p) (top st .q) → {d : Edit} → r ≡ Found d → stepOf st y size (syndromeAnswer a v) ≡ trialStep st y size v (repairHow (top st .p) (top st .q)) d
+    syndrome-found o {d} f = repair-step o ∙ rw (repair-found (top st .p) a copy r d rp f) refl
+
+    pub syndrome-nothing : OneApart (top st .p) (top st .q) → r ≡ Nothing → stepOf st y size (syndromeAnswer a v) ≡ effectStep st size (retry (st .settings) (top st .p) copy)
+    syndrome-nothing o f = repair-step o ∙ rw (repair-nothing (top st .p) a copy r rp f) refl
+
+    pub syndrome-fits : OneApart (top st .p) (top st .q) → {d : Edit} → r ≡ Found d → Fits d (top st .q) (top st .p)
+    syndrome-fits (oneLess h) {d} f = repair-fits a copy (top st .q) len (top st .p) (inl h) d (sym rp ∙ f)
+    syndrome-fits (oneMore h) {d} f = repair-fits a copy (top st .q) len (top st .p) (inr h) d (sym rp ∙ f)
+
+  pub step-bits : (l : List Bool) → 4 ≤ st .stage → stepOf st y size (bitsAnswer l) ≡ effectStep st size (settles ByBits l)
+  unfolding effect
+  step-bits l h = go (st .stage) refl h
+    where
+      go : (j : ℕ) → st .stage ≡ j → 4 ≤ j → stepOf st y size (bitsAnswer l) ≡ effectStep st size (settles ByBits l)
+      go zero e h = absurd (omega arith)
+      go (suc zero) e h = absurd (omega arith)
+      go (suc (suc zero)) e h = absurd (omega arith)
+      go (suc (suc (suc zero))) e h = absurd (omega arith)
+      go (suc (suc (suc (suc j)))) e h = at-stage (bitsAnswer l) (suc (suc (suc (suc j)))) e
+
+  -- an anchor's bits
+  module _ (l : List Bool) (low : 0 < st .stage) (early : st .stage < 4) where
+    abbrev offset : ℕ
+    offset = anchorOffset (st .settings .m) (top st .p) (st .stage)
+
+    -- with t the stage that comes if the anchor has no place
+    pub step-anchor : (t : Stage) × (stepOf st y size (bitsAnswer l) ≡ effectStep st size (placedOr offset l t (place (st .settings .m) (st .settings .k) (top st .p) offset copy l)))
+    step-anchor =
+        let f = stage-anchor (st .settings) l (top st .p) (top st .q) copy (st .stage) low early in
+        (f .0, at-stage (bitsAnswer l) (st .stage) refl ∙ ap (effectStep st size) (f .1))
+
+-- ---- a repair that is looked for
+module _ (st : Rebuilder) (y : List ℕ) (size a v : ℕ) (ph : st .phase ≡ 1) (e : st .stage ≡ 0) (o : OneApart (top st .p) (top st .q))
+    {t : Piece} (tp : t ≡ top st) {r : Repair} (rp : r ≡ repairEdit (t .p) a (range y (t .y) (t .q))) where
+  repair-top : r ≡ repairEdit (top st .p) a (range y (top st .y) (top st .q))
+  repair-top = rp ∙ ap (λ (z : Piece). repairEdit (z .p) a (range y (z .y) (z .q))) tp
+
+  pub found-step : {h : How} → h ≡ repairHow (t .p) (t .q) → {d : Edit} → r ≡ Found d → stepOf st y size (syndromeAnswer a v) ≡ trialStep st y size v h d
+  found-step g {d} f =
+      syndrome-found st y size ph a v e repair-top o f
+      ∙ ap (λ (w : How). trialStep st y size v w d) (sym (g ∙ ap (λ (z : Piece). repairHow (z .p) (z .q)) tp))
+
+  pub found-fits : {d : Edit} → r ≡ Found d → Fits d (top st .q) (top st .p)
+  found-fits f = syndrome-fits st y size ph a v e repair-top o f
+
+  pub nothing-step : r ≡ Nothing → stepOf st y size (syndromeAnswer a v) ≡ effectStep st size (stays (laterStage (st .settings) (top st .p) (length (range y (top st .y) (top st .q)))))
+  nothing-step f = syndrome-nothing st y size ph a v e repair-top o f
+
+-- ---- the anchor's place
+pub place-some : {p : Place} (o : Option ℕ) → p ≡ placeIn o → {r : ℕ} → p ≡ At r → o ≡ some r
+place-some none e f = let z : _≡_ {A = ℕ} 0 1 = cc in absurd (omega arith)
+place-some (some i) e {r} f = let d : i ≡ r = cc in ap some d
+
+pub place-none : {p : Place} (o : Option ℕ) → p ≡ placeIn o → p ≡ Nowhere → o ≡ none
+place-none none e f = refl
+place-none (some i) e f = let z : _≡_ {A = ℕ} 0 1 = cc in absurd (omega arith)
+
+pub place-within : (m k p s : ℕ) (ys b : List Bool) (r : ℕ) → place m k p s ys b ≡ some r → r + m ≤ length ys
+place-within m k p s ys b r e =
+    let h : Best (anchorFits m k p s ys b) (away p (length ys) s) 0 (length ys + 1 - m) (some r) = rw e at (place-best m k p s ys b) in
+    let u = h .1 in omega arith
+
+module _ {st : Rebuilder} {size room : ℕ} (k : Acting st size room) (anchoring : (0 < st .stage) × (st .stage < 4)) {t : Piece} (tp : t ≡ top st) where
+  long : 4 * st .settings .m ≤ top st .p
+  long = stage-big (st .settings) (top st .p) (top st .q) (st .stage) (topped st size room k .stage) (anchoring .0) (anchoring .1)
+
+  pub offsets : Offsets (st .settings .m) (t .p)
+  offsets =
+      let l = long in let a = topped st size room k .inX in let n = framed st size room k .size in let m = framed st size room k .limits .m-most in
+      rw tp record { m-most = m; long = l; p-most = omega arith }
+
+  module _ {s : ℕ} (so : s ≡ anchorOffset (st .settings .m) (t .p) (st .stage)) where
+    pub offset-is : s ≡ anchorOffset (st .settings .m) (top st .p) (st .stage)
+    offset-is = so ∙ ap (λ (z : Piece). anchorOffset (st .settings .m) (z .p) (st .stage)) tp
+
+    offset-room : s + st .settings .m ≤ top st .p
+    offset-room = let o = offset-within (st .settings .m) (top st .p) (st .stage) long in let e = offset-is in omega arith
+
+    pub search-ready : (y bits : List ℕ) → st .ybits ≤ 8 * length y → st .settings .m ≤ 8 * length bits → Ready y (t .y) (t .q) (t .p) s (st .settings .m) (st .settings .k) bits 0
+    search-ready y bits h i =
+        let a = topped st size room k .inX in let b = topped st size room k .inY in let n = framed st size room k .size in let c = framed st size room k .copy in
+        let L = framed st size room k .limits in let o = offset-room in let m = L .m-most in
+        rw tp record { piece = omega arith; few = omega arith; length-most = omega arith; offset-most = omega arith; m-most = m; k-most = L .k-most; anchor = omega arith; anchor-few = omega arith }
+
+    pub anchor-start : t .x + s < 4294967296
+    anchor-start = let a = topped st size room k .inX in let n = framed st size room k .size in let o = offset-room in rw tp (omega arith)
+
+    pub anchor-written : (string : List ℕ) (b : List Bool) {z : List ℕ} → z ≡ writeBits string (t .x + s) b → z ≡ writeBits string (top st .x + s) b
+    anchor-written string b e = e ∙ ap (λ (z : Piece). writeBits string (z .x + s) b) tp
+
+    pub anchor-text : (string : List ℕ) → st .n ≤ 8 * length string → Part string (t .x + s) (st .settings .m)
+    anchor-text string h = let a = topped st size room k .inX in let n = framed st size room k .size in let o = offset-room in rw tp record { there = omega arith; few = omega arith }
+
+    module _ (y : List ℕ) (b : List Bool) {p : Place} (pp : p ≡ placeIn (place (st .settings .m) (st .settings .k) (t .p) s (range y (t .y) (t .q)) b)) where
+      found-place : {r : ℕ} → p ≡ At r → place (st .settings .m) (st .settings .k) (top st .p) (anchorOffset (st .settings .m) (top st .p) (st .stage)) (range y (top st .y) (top st .q)) b ≡ some r
+      found-place f =
+          ap₂ (λ (z : Piece) (i : ℕ). place (st .settings .m) (st .settings .k) (z .p) i (range y (z .y) (z .q)) b) (sym tp) (sym offset-is)
+          ∙ place-some (place (st .settings .m) (st .settings .k) (t .p) s (range y (t .y) (t .q)) b) pp f
+
+      no-place : p ≡ Nowhere → place (st .settings .m) (st .settings .k) (top st .p) (anchorOffset (st .settings .m) (top st .p) (st .stage)) (range y (top st .y) (top st .q)) b ≡ none
+      no-place f =
+          ap₂ (λ (z : Piece) (i : ℕ). place (st .settings .m) (st .settings .k) (z .p) i (range y (z .y) (z .q)) b) (sym tp) (sym offset-is)
+          ∙ place-none (place (st .settings .m) (st .settings .k) (t .p) s (range y (t .y) (t .q)) b) pp f
+
+      pub place-splits : {r : ℕ} → p ≡ At r → Splitting st s r
+      place-splits {r} f =
+          let w = place-within (st .settings .m) (st .settings .k) (top st .p) (anchorOffset (st .settings .m) (top st .p) (st .stage)) (range y (top st .y) (top st .q)) b r (found-place f) in
+          let e = range-length y (top st .y) (top st .q) in
+          record { later = anchoring .0; early = anchoring .1; offset = offset-is; placed = omega arith }
+
+      pub place-small : {r : ℕ} → p ≡ At r → r < 4294967296
+      place-small f = let g = place-splits f in let a = g .placed in let b = topped st size room k .inY in let c = framed st size room k .copy in omega arith
+
+      pub anchor-placed : {r : ℕ} → p ≡ At r → stepOf st y size (bitsAnswer b) ≡ effectStep st size (splits s r b)
+      anchor-placed {r} f =
+          let a = step-anchor st y size (k .phase) b (anchoring .0) (anchoring .1) in
+          a .1 ∙ ap (λ (o : Option ℕ). effectStep st size (placedOr (anchorOffset (st .settings .m) (top st .p) (st .stage)) b (a .0) o)) (found-place f)
+          ∙ ap (λ (i : ℕ). effectStep st size (splits i r b)) (sym offset-is)
+
+      pub anchor-unplaced : p ≡ Nowhere → (u : Stage) × (stepOf st y size (bitsAnswer b) ≡ effectStep st size (stays u))
+      anchor-unplaced f =
+          let a = step-anchor st y size (k .phase) b (anchoring .0) (anchoring .1) in
+          (a .0, a .1 ∙ ap (λ (o : Option ℕ). effectStep st size (placedOr (anchorOffset (st .settings .m) (top st .p) (st .stage)) b (a .0) o)) (no-place f))

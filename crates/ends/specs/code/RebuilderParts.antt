@@ -1,0 +1,136 @@
+-- What the parts of the rebuilder's call give and require.
+use mathlib.Core.Path.{_≡_}
+use mathlib.Core.Bool.{Bool, true, cond}
+use mathlib.Core.Logic.{_⊎_}
+use mathlib.Core.Option.{some}
+use mathlib.Core.List.{List, [], _∷_}
+use Prim.Native.Nat.{ℕ, _+_, _*_, max, _≤_, _<_}
+use lib.ListN.{length}
+use lib.Dec.{leb, eqb}
+use Rattle.strings.specs.Bits.{range, atFront}
+use Rattle.strings.specs.laws.PackLaws.{Bytes}
+use Rattle.codes.specs.declared.edits.Edit.{Edit}
+use Rattle.codes.specs.code.Edits.{edited}
+use Rattle.ends.specs.declared.How.{How}
+use Rattle.ends.specs.declared.How.the-variants.{ByPutIn, ByTakeOut}
+use Rattle.ends.specs.Segments.{trial, retry}
+use Rattle.strings.specs.declared.Refusal.{Refusal}
+use Rattle.messages.specs.declared.Question.{Question}
+use Rattle.messages.specs.declared.AnswerRead.{AnswerRead}
+use Rattle.messages.specs.declared.AnswerRead.the-variants.{IsSize, IsHash, IsSyndrome, IsBits, NoAnswer}
+use Rattle.messages.specs.Questions.{questionKind}
+use Rattle.messages.specs.Answers.{readAnswer, sizeAnswer, hashAnswer, syndromeAnswer, bitsAnswer}
+use Rattle.ends.specs.declared.Rebuilder.{Rebuilder}
+use Rattle.ends.specs.declared.SheetChange.{SheetChange}
+use Rattle.ends.specs.declared.SheetChange.the-variants.{NoRow}
+use Rattle.ends.specs.Runs.{full}
+use Rattle.ends.specs.States.{planned, top, anchorOffset}
+use Rattle.ends.specs.Soundness.{sound}
+use Rattle.ends.specs.RebuilderCall.{Taken, refuses, takes, Step, writtenQuestion, questionLength, Rooms, roomFor, effectStep, stepOf}
+use Rattle.ends.specs.declared.rebuilding.RebuilderAnswer.{RebuilderAnswer}
+use Rattle.ends.specs.declared.rebuilding.RebuilderAnswer.the-variants.{Asks, Finished, Refused}
+use Rattle.ends.specs.declared.rebuilding.RebuilderOut.{RebuilderOut}
+
+-- ---- the parts of the call
+-- the next question's length, or the finish
+abbrev pub nextAnswer : List ℕ → RebuilderAnswer
+nextAnswer [] = Finished
+nextAnswer (b ∷ m) = Asks (length (b ∷ m))
+
+-- turned down
+abbrev pub turnedDown : Refusal → Rebuilder → RebuilderOut
+turnedDown e st = record { answer = Refused e; state = st; sheet = NoRow; answered = st .answered; counted = st .counted }
+
+-- a step with the question that its state asks
+abbrev pub stepTaken : Step → Taken
+stepTaken k = takes k (writtenQuestion (planned (k .state)))
+
+-- what is given for a state s and a change of the sheet, with the next question written over the buffer q
+pub record OutIs (r : RebuilderOut) (s : Rebuilder) (k : SheetChange) (q q′ : List ℕ) : Type 0 where
+  pub out : r ≡ record { answer = nextAnswer (writtenQuestion (planned s)); state = s; sheet = k; answered = s .answered; counted = s .counted }
+  pub question : q′ ≡ atFront (writtenQuestion (planned s)) q
+
+-- an answer of size bytes for the leftmost piece of a sound state, with a question buffer of room bytes
+pub record Acting (st : Rebuilder) (size room : ℕ) : Type 0 where
+  pub sound-now : sound st ≡ true
+  pub array : length (st .pieces) ≡ 32
+  pub phase : st .phase ≡ 1
+  pub some : 0 < st .waiting
+  pub short : size ≤ max 9 (full (st .n))
+  pub enough : 8 ≤ room
+
+-- the lent strings hold what the state says of them
+pub record Lending (st : Rebuilder) (y string : List ℕ) : Type 0 where
+  pub copy : st .ybits ≤ 8 * length y
+  pub text : st .n ≤ 8 * length string
+
+-- s is the offset of the stage's anchor, and r leaves it in the copy
+pub record Splitting (st : Rebuilder) (s r : ℕ) : Type 0 where
+  pub later : 0 < st .stage
+  pub early : st .stage < 4
+  pub offset : s ≡ anchorOffset (st .settings .m) (top st .p) (st .stage)
+  pub placed : r + st .settings .m ≤ top st .q
+
+pub data OneApart (p q : ℕ) : Type 0 where
+  oneLess : q + 1 ≡ p → OneApart p q
+  oneMore : q ≡ p + 1 → OneApart p q
+
+-- step 3: put-in for a copy that is one bit short, else take-out
+unfoldable pub repairHow : ℕ → ℕ → How
+repairHow p q = cond (eqb (q + 1) p) ByPutIn ByTakeOut
+
+-- an edit of the leftmost piece's copy, kept if its hash is v
+abbrev pub trialStep : Rebuilder → List ℕ → (size v : ℕ) → How → Edit → Step
+trialStep st y size v how e =
+    let ys = range y (top st .y) (top st .q) in
+    effectStep st size (trial (st .settings) v how (edited e ys) (retry (st .settings) (top st .p) ys))
+
+-- ---- an answer that was read
+-- the opening's answer n
+pub record Opening (st : Rebuilder) (n room : ℕ) : Type 0 where
+  pub sound-now : sound st ≡ true
+  pub array : length (st .pieces) ≡ 32
+  pub phase : st .phase ≡ 0
+  pub small : n ≤ 65536
+  pub enough : 8 ≤ room
+
+-- an answer of size bytes with all bits of the string
+pub record WholeDue (st : Rebuilder) (size room : ℕ) : Type 0 where
+  pub sound-now : sound st ≡ true
+  pub phase : st .phase ≡ 2
+  pub short : size ≤ full (st .n)
+  pub enough : 8 ≤ room
+
+-- an answer of size bytes with bits: of the string, or of the leftmost piece
+pub record BitsDue (st : Rebuilder) (size room : ℕ) : Type 0 where
+  pub phases : (WholeDue st size room) ⊎ (Acting st size room × (0 < st .stage))
+
+-- how many bits are awaited
+abbrev pub dueLength : Rebuilder → ℕ
+dueLength st = cond (eqb (st .phase) 2) (st .n) (cond (leb 4 (st .stage)) (top st .p) (st .settings .m))
+
+-- the question that waits, and what was read from the message as its answer
+pub record Due (st : Rebuilder) (msg : List ℕ) (len : ℕ) (read : AnswerRead) : Type 0 where
+  pub sound-now : sound st ≡ true
+  pub array : length (st .pieces) ≡ 32
+  pub bytes : Bytes msg
+  pub question : Question
+  pub asked : planned st ≡ some question
+  pub asked-length : len ≡ questionLength question
+  pub read-is : read ≡ readAnswer (questionKind question) (questionLength question) (st .settings .h) msg
+
+-- whether the lent room is enough for the answer; a message that is no answer is turned down for that
+abbrev pub answerRoom : Rebuilder → Rooms → AnswerRead → Bool
+answerRoom st rooms (IsSize n) = roomFor st n rooms
+answerRoom st rooms (IsHash v) = roomFor st (st .n) rooms
+answerRoom st rooms (IsSyndrome a v) = roomFor st (st .n) rooms
+answerRoom st rooms (IsBits at) = roomFor st (st .n) rooms
+answerRoom st rooms (NoAnswer e) = true
+
+-- what comes of it in enough room
+abbrev pub heardStep : Rebuilder → (y msg : List ℕ) → (len : ℕ) → AnswerRead → Taken
+heardStep st y msg len (IsSize n) = stepTaken (stepOf st y (length msg) (sizeAnswer n))
+heardStep st y msg len (IsHash v) = stepTaken (stepOf st y (length msg) (hashAnswer v))
+heardStep st y msg len (IsSyndrome a v) = stepTaken (stepOf st y (length msg) (syndromeAnswer a v))
+heardStep st y msg len (IsBits at) = stepTaken (stepOf st y (length msg) (bitsAnswer (range msg (8 * at) len)))
+heardStep st y msg len (NoAnswer e) = refuses e

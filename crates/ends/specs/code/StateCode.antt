@@ -1,0 +1,139 @@
+-- What the functions of src/state.rt require, and laws for their proofs.
+use mathlib.Core.Path.{_≡_, refl, sym, ap, _∙_}
+use mathlib.Core.Bool.{Bool, true, false, cond, _||_}
+use mathlib.Core.Option.{Option, none, some}
+use Prim.Native.Nat.{ℕ, _+_, _-_, _*_, _≤_, _<_}
+use native.Mathlib.Nat.{le-refl}
+use native.Mathlib.Omega.{arith}
+use lib.ListN.{set}
+use lib.Dec.{eqb}
+use borrow.Author.Tests.{eq-eqb, ne-eqb}
+use Rattle.strings.specs.laws.Tests.{true-false, by-test}
+use Rattle.messages.specs.declared.Question.{Question}
+use Rattle.strings.specs.declared.settings.Settings.{Settings}
+use Rattle.ends.specs.declared.Piece.{Piece}
+use Rattle.ends.specs.declared.Rebuilder.{Rebuilder}
+use Rattle.ends.specs.States.{top, laterNumber, firstNumber, stacked, popped, pushed, restaged, splitAt, leftPiece, rightPiece}
+use Rattle.ends.specs.declared.state.Plan.{Plan}
+use Rattle.ends.specs.declared.state.Plan.the-variants.{Ask, Finished}
+
+-- lengths that are equal or one apart
+unfoldable pub withinOne : (p q : ℕ) → Bool
+withinOne p q = eqb q p || (eqb (q + 1) p || eqb q (p + 1))
+
+-- a planned question as the code hands it on
+abbrev pub planOf : Option Question → Plan
+planOf none = Finished
+planOf (some q) = Ask q
+
+-- ---- what is required
+-- settings of which 4(m + h) can be computed
+pub record Usable (S : Settings) : Type 0 where
+  pub m-most : S .m ≤ 64
+  pub h-most : S .h ≤ 32
+
+-- a piece waits
+pub record Holds (st : Rebuilder) : Type 0 where
+  pub some : 0 < st .waiting
+  pub few : st .waiting ≤ 32
+
+pub record Stages (st : Rebuilder) : Type 0 where
+  pub usable : Usable (st .settings)
+  pub few : st .waiting ≤ 32
+
+pub record Retries (st : Rebuilder) : Type 0 where
+  pub usable : Usable (st .settings)
+  pub some : 0 < st .waiting
+  pub few : st .waiting ≤ 32
+  pub early : st .stage < 4
+
+-- a piece that is long enough for anchors
+pub record Offsets (m p : ℕ) : Type 0 where
+  pub m-most : m ≤ 64
+  pub long : 4 * m ≤ p
+  pub p-most : p ≤ 65536
+
+-- the anchor at offset s, placed at r, is within the leftmost piece, and one more piece has room
+pub record Splits (st : Rebuilder) (s r : ℕ) : Type 0 where
+  pub usable : Usable (st .settings)
+  pub some : 0 < st .waiting
+  pub few : st .waiting < 32
+  pub in-x : s + st .settings .m ≤ top st .p
+  pub in-y : r + st .settings .m ≤ top st .q
+  pub x-most : top st .x + top st .p < 4294967296
+  pub y-most : top st .y + top st .q < 4294967296
+
+-- the counts stay below 2^32
+pub record Counts (st : Rebuilder) (size rows : ℕ) : Type 0 where
+  pub answered : st .answered + 1 < 4294967296
+  pub counted : st .counted + size < 4294967296
+  pub used : st .rows + rows < 4294967296
+
+-- an anchor, where one is asked for, is within the piece
+pub record Asks (m j : ℕ) (t : Piece) : Type 0 where
+  pub m-most : m ≤ 64
+  pub p-most : t .p ≤ 65536
+  pub x-most : t .x + t .p < 4294967296
+  pub long : 0 < j → j < 4 → 4 * m ≤ t .p
+
+pub record Plans (st : Rebuilder) : Type 0 where
+  pub few : st .waiting ≤ 32
+  pub asks : st .phase ≡ 1 → 0 < st .waiting → Asks (st .settings .m) (st .stage) (top st)
+
+-- ---- laws
+-- settings are kept, and at most w pieces wait
+pub record After (st to : Rebuilder) (w : ℕ) : Type 0 where
+  pub settings : to .settings ≡ st .settings
+  pub waiting : to .waiting ≤ w
+
+pub after-pop : (st one : Rebuilder) → one ≡ popped st → After st one (st .waiting - 1)
+unfolding popped
+after-pop st one e = record { settings = ap (λ (s : Rebuilder). s .settings) e; waiting = (let k = ap (λ (s : Rebuilder). s .waiting) e in omega arith) }
+
+pub after-push : (st one two : Rebuilder) (pc : Piece) (w : ℕ) → After st one w → two ≡ pushed one pc → After st two (w + 1)
+unfolding pushed
+after-push st one two pc w a e =
+    let k = a .waiting in
+    let h : After st (cond (eqb (pc .p) 0) one (stacked one (one .stage) (one .waiting + 1) (set (one .pieces) (one .waiting) pc))) (w + 1) =
+    by-test (λ (s : Rebuilder). After st s (w + 1)) (eqb (pc .p) 0) (λ t. record { settings = a .settings; waiting = omega arith }) (λ t. record { settings = a .settings; waiting = omega arith }) in
+    rw e h
+
+pub stages-after : (st to : Rebuilder) (w : ℕ) → Usable (st .settings) → w ≤ 32 → After st to w → Stages to
+stages-after st to w u h a = let k = a .waiting in record { usable = rw (a .settings) u; few = omega arith }
+
+pub stages-push : (one two : Rebuilder) (pc : Piece) → Usable (one .settings) → one .waiting < 32 → two ≡ pushed one pc → Stages two
+stages-push one two pc u h e = stages-after one two (one .waiting + 1) u (omega arith) (after-push one one two pc (one .waiting) (record { settings = refl; waiting = le-refl (one .waiting) }) e)
+
+pub split-is : (st one two three four : Rebuilder) (t : Piece) (s r : ℕ) → t ≡ top st → one ≡ popped st → two ≡ pushed one (rightPiece (st .settings .m) t s r)
+    → three ≡ pushed two (leftPiece t s r) → four ≡ restaged three → four ≡ splitAt st s r
+unfolding splitAt
+split-is st one two three four t s r a b c d e = rw (e, d, c, b, a) refl
+
+-- ---- the stage at which a piece begins
+pub one-less : (p q : ℕ) → q + 1 ≡ p → true ≡ withinOne p q
+unfolding withinOne
+one-less p q e = let n : (q ≡ p) → ⊥ = omega arith in simp (ne-eqb _ _ n, eq-eqb _ _ e)
+
+pub one-more : (p q a b : ℕ) → a ≡ p → b ≡ q → (q ≡ p → ⊥) → (b + 1 ≡ a → ⊥) → eqb b (a + 1) ≡ withinOne p q
+unfolding withinOne
+one-more p q a b e f n k = let l : (q + 1 ≡ p) → ⊥ = omega arith in rw (e, f) (simp (ne-eqb _ _ n, ne-eqb _ _ l))
+
+pub first-near : (S : Settings) (p q : ℕ) (t : Bool) → t ≡ withinOne p q → t ≡ true → 0 ≡ firstNumber S p q
+unfolding firstNumber withinOne
+first-near S p q t e f = go (eqb q p) (eqb (q + 1) p) (eqb q (p + 1)) (sym e ∙ f)
+  where
+    go : (a b c : Bool) → a || (b || c) ≡ true → 0 ≡ cond a 0 (cond b 0 (cond c 0 (laterNumber S p q)))
+    go true b c h = refl
+    go false true c h = refl
+    go false false true h = refl
+    go false false false h = absurd (true-false (sym h))
+
+pub first-far : (S : Settings) (p q : ℕ) (t : Bool) (r : ℕ) → t ≡ withinOne p q → t ≡ false → r ≡ laterNumber S p q → r ≡ firstNumber S p q
+unfolding firstNumber withinOne
+first-far S p q t r e f g = go (eqb q p) (eqb (q + 1) p) (eqb q (p + 1)) (sym e ∙ f)
+  where
+    go : (a b c : Bool) → a || (b || c) ≡ false → r ≡ cond a 0 (cond b 0 (cond c 0 (laterNumber S p q)))
+    go true b c h = absurd (true-false h)
+    go false true c h = absurd (true-false h)
+    go false false true h = absurd (true-false h)
+    go false false false h = g

@@ -1,0 +1,136 @@
+-- The question that a state asks, the answers that its call reads, and what a taken call shows.
+use mathlib.Core.Path.{_≡_, refl, sym, ap, _∙_}
+use mathlib.Core.Bool.{Bool, true, false, cond, _&&_}
+use mathlib.Core.List.{List}
+use mathlib.Core.Option.{Option, none, some}
+use Prim.Native.Nat.{ℕ, zero, suc, _+_, _-_, _*_}
+use native.Mathlib.Omega.{arith}
+use lib.ListN.{length, getD}
+use lib.Dec.{eqb}
+use borrow.Author.Tests.{eq-eqb, le-leb, ne-eqb}
+use Rattle.messages.specs.laws.AnswerLaws.{answer-form}
+use Rattle.messages.specs.Answers.{Answer, answerValue, bitsAnswer, hashAnswer, readAnswer, sizeAnswer, syndromeAnswer}
+use Rattle.messages.specs.Questions.{questionKind}
+use Rattle.messages.specs.declared.AnswerRead.{AnswerRead}
+use Rattle.messages.specs.declared.AnswerRead.the-variants.{IsBits, IsHash, IsSize, IsSyndrome, NoAnswer}
+use Rattle.messages.specs.declared.Question.{Question}
+use Rattle.messages.specs.declared.Question.the-variants.{AskHash, AskSyndrome}
+use Rattle.ends.specs.RebuilderCall.{Rooms, Step, Taken, awaits, bitsKnown, given, hears, numberedStage, questionLength, rebuilderCall, roomFor, stepOf, takes, unlessTaken, writtenQuestion}
+use Rattle.ends.specs.Runs.{sizeOf}
+use Rattle.ends.specs.Segments.{asks, hashing, puttingIn, step, takingOut, waiting}
+use Rattle.ends.specs.laws.SoundSteps.{step-sound}
+use Rattle.ends.specs.Soundness.{sound}
+use Rattle.ends.specs.laws.StackLaws.{numberedPhase, stageHeld}
+use Rattle.ends.specs.laws.Standing.{Stands}
+use Rattle.ends.specs.States.{anchorOffset, askFor, held, noPiece, planned, top}
+use Rattle.ends.specs.laws.Store.{Store, askStore, askTop, store}
+use Rattle.ends.specs.declared.Piece.{Piece}
+use Rattle.ends.specs.declared.Rebuilder.{Rebuilder}
+use Rattle.ends.specs.declared.Row.{Row}
+use Rattle.strings.specs.declared.settings.Settings.{Settings}
+use Rattle.strings.specs.Bits.{range}
+use Rattle.strings.specs.laws.PackLaws.{Bytes}
+use Rattle.strings.specs.StringRule.{stringRule}
+use Rattle.strings.specs.declared.Refusal.{Refusal}
+use Rattle.strings.specs.declared.Refusal.the-variants.{BadString, NoRoom, OutOfTurn}
+
+-- the question for a stage's number
+pub asks-number : (S : Settings) (pc : Piece) (j : ℕ) → asks S (pc .x) (pc .p) (numberedStage S (pc .p) (pc .q) j) ≡ askFor (S .m) j pc
+unfolding askFor anchorOffset
+asks-number S pc zero = go (eqb (pc .q) (pc .p)) (eqb (pc .q + 1) (pc .p))
+  where
+    go : (t u : Bool) → asks S (pc .x) (pc .p) (cond t hashing (cond u puttingIn takingOut)) ≡ cond t (AskHash (pc .x) (pc .p)) (AskSyndrome (pc .x) (pc .p))
+    go true u = refl
+    go false true = refl
+    go false false = refl
+asks-number S pc (suc zero) = refl
+asks-number S pc (suc (suc zero)) = refl
+asks-number S pc (suc (suc (suc zero))) = refl
+asks-number S pc (suc (suc (suc (suc j)))) =
+    let e : suc (suc (suc (suc j))) ≡ 4 + j = omega arith in
+    rw (ne-eqb (suc (suc (suc (suc j)))) 0 (λ z. omega arith), le-leb 4 (suc (suc (suc (suc j)))) (omega arith)) refl
+
+-- a state asks what the store that it stands for asks
+pub asks-planned : {S : Settings} {yb : ℕ} {bs₀ : List ℕ} {sh₀ : List Row} {z : ℕ} {st : Rebuilder} {bs : List ℕ} {sh : List Row} {s : Store} → Stands S yb bs₀ sh₀ z st bs sh s → planned st ≡ askStore S s
+unfolding planned top
+asks-planned {S} {st = st} {s = s} h = go (st .phase) refl
+  where
+    ask-top : (w : ℕ) (arr : List Piece) (j : ℕ) → cond (eqb w 0) none (some (askFor (S .m) j (getD arr (w - 1) noPiece))) ≡ askTop S (stageHeld S j (held w arr)) (held w arr)
+    ask-top zero arr j = refl
+    ask-top (suc w) arr j =
+        let e : suc w - 1 ≡ w = omega arith in
+        rw (e, ne-eqb (suc w) 0 (λ z. omega arith)) (ap some (sym (asks-number S (getD arr w noPiece) j)))
+
+    go : (k : ℕ) → st .phase ≡ k → planned st ≡ askStore S s
+    go zero e =
+        rw (eq-eqb (st .phase) 0 e, h .settings)
+        (sym (ap (askStore S) (h .is) ∙ ap (λ (k : ℕ). askStore S (store (numberedPhase k) (st .n) (st .counted) (stageHeld S (st .stage) (held (st .waiting) (st .pieces))) (held (st .waiting) (st .pieces)) (h .str) (h .rows))) e))
+    go (suc zero) e =
+        rw (ne-eqb (st .phase) 0 (λ z. omega arith), eq-eqb (st .phase) 1 e, h .settings)
+        (ask-top (st .waiting) (st .pieces) (st .stage)
+        ∙ sym (ap (askStore S) (h .is) ∙ ap (λ (k : ℕ). askStore S (store (numberedPhase k) (st .n) (st .counted) (stageHeld S (st .stage) (held (st .waiting) (st .pieces))) (held (st .waiting) (st .pieces)) (h .str) (h .rows))) e))
+    go (suc (suc k)) e =
+        rw (ne-eqb (st .phase) 0 (λ z. omega arith), ne-eqb (st .phase) 1 (λ z. omega arith))
+        (sym (ap (askStore S) (h .is) ∙ ap (λ (k : ℕ). askStore S (store (numberedPhase k) (st .n) (st .counted) (stageHeld S (st .stage) (held (st .waiting) (st .pieces))) (held (st .waiting) (st .pieces)) (h .str) (h .rows))) e))
+
+-- ---- the holder's answers are read
+-- an answer that was read is the one that its value says
+pub hears-value : (st : Rebuilder) (y msg : List ℕ) (rooms : Rooms) (len : ℕ) (a : Answer) (r : AnswerRead) → answerValue msg len r ≡ some a → hears st y msg rooms len r ≡ given st y msg rooms a
+hears-value st y msg rooms len a (IsSize n) e = let d : sizeAnswer n ≡ a = cc in ap (given st y msg rooms) d
+hears-value st y msg rooms len a (IsHash v) e = let d : hashAnswer v ≡ a = cc in ap (given st y msg rooms) d
+hears-value st y msg rooms len a (IsSyndrome b v) e = let d : syndromeAnswer b v ≡ a = cc in ap (given st y msg rooms) d
+hears-value st y msg rooms len a (IsBits at) e = let d : bitsAnswer (range msg (8 * at) len) ≡ a = cc in ap (given st y msg rooms) d
+hears-value st y msg rooms len a (NoAnswer x) e = let z : _≡_ {A = ℕ} 0 1 = cc in absurd (omega arith)
+
+-- ---- a call that was taken
+pub record TakenCall (st : Rebuilder) (y : List ℕ) (msg : List ℕ) (rooms : Rooms) (step : Step) (next : List ℕ) : Type 0 where
+  pub sound-before : sound st ≡ true
+  pub q : Question
+  pub asked : planned st ≡ some q
+  pub a : Answer
+  pub read : answerValue msg (questionLength q) (readAnswer (questionKind q) (questionLength q) (st .settings .h) msg) ≡ some a
+  pub room : roomFor st (bitsKnown st a) rooms ≡ true
+  pub steps : step ≡ stepOf st y (length msg) a
+  pub asks : next ≡ writtenQuestion (planned (stepOf st y (length msg) a .state))
+
+pub unless-taken : (t : Bool) (e : Refusal) (k : Taken) (s : Step) (m : List ℕ) → unlessTaken t e k ≡ takes s m → (t ≡ true) × (k ≡ takes s m)
+unless-taken true e k s m h = (refl, h)
+unless-taken false e k s m h = let z : _≡_ {A = ℕ} 0 1 = cc in absurd (omega arith)
+
+module _ (st : Rebuilder) (y : List ℕ) (bits : ℕ) (msg : List ℕ) (rooms : Rooms) (step : Step) (next : List ℕ) where
+  given-taken : (a : Answer) → given st y msg rooms a ≡ takes step next
+      → (roomFor st (bitsKnown st a) rooms ≡ true) × (step ≡ stepOf st y (length msg) a) × (next ≡ writtenQuestion (planned (stepOf st y (length msg) a .state)))
+  given-taken a e =
+      let u = unless-taken (roomFor st (bitsKnown st a) rooms) NoRoom (takes (stepOf st y (length msg) a) (writtenQuestion (planned (stepOf st y (length msg) a .state)))) step next e in
+      let f = u .1 in
+      (u .0, (cc), (cc))
+
+  heard-taken : (len : ℕ) (r : AnswerRead) → hears st y msg rooms len r ≡ takes step next → (a : Answer) × (answerValue msg len r ≡ some a) × (given st y msg rooms a ≡ takes step next)
+  heard-taken len (IsSize n) e = (sizeAnswer n, refl, e)
+  heard-taken len (IsHash v) e = (hashAnswer v, refl, e)
+  heard-taken len (IsSyndrome b v) e = (syndromeAnswer b v, refl, e)
+  heard-taken len (IsBits at) e = (bitsAnswer (range msg (8 * at) len), refl, e)
+  heard-taken len (NoAnswer x) e = let z : _≡_ {A = ℕ} 0 1 = cc in absurd (omega arith)
+
+  pub taken-call : rebuilderCall st y bits msg rooms ≡ takes step next → TakenCall st y msg rooms step next
+  unfolding rebuilderCall
+  taken-call e =
+      let u = unless-taken (stringRule y bits && eqb (st .ybits) bits) BadString _ step next e in
+      let v = unless-taken (sound st) OutOfTurn _ step next (u .1) in
+      go (v .0) (planned st) refl (v .1)
+    where
+      go : sound st ≡ true → (o : Option Question) → planned st ≡ o → awaits st y msg rooms o ≡ takes step next → TakenCall st y msg rooms step next
+      go s none k f = let z : _≡_ {A = ℕ} 0 1 = cc in absurd (omega arith)
+      go s (some q) k f =
+          let h = heard-taken (questionLength q) (readAnswer (questionKind q) (questionLength q) (st .settings .h) msg) f in
+          let g = given-taken (h .0) (h .2) in
+          record { sound-before = s; q = q; asked = k; a = h .0; read = h .1; room = g .0; steps = g .1; asks = g .2 }
+
+-- every state from a call of the rebuilder is sound
+pub call-sound : (st : Rebuilder) (y : List ℕ) (bits : ℕ) (msg : List ℕ) (rooms : Rooms) (step : Step) (next : List ℕ) → length (st .pieces) ≡ 32 → Bytes msg → rebuilderCall st y bits msg rooms ≡ takes step next
+    → (sound (step .state) ≡ true) × (length (step .state .pieces) ≡ 32)
+unfolding sizeOf
+call-sound st y bits msg rooms step next arr by e =
+    let t = taken-call st y bits msg rooms step next e in
+    let f = answer-form (questionKind (t .q)) (questionLength (t .q)) (st .settings .h) msg (t .a) (t .read) in
+    rw (t .steps) (step-sound st y (t .q) (t .a) (length msg) arr (t .sound-before) (t .asked) (f .proper) (ap length (f .bytes by)))

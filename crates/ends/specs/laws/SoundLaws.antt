@@ -1,0 +1,152 @@
+-- Laws of the soundness test: what each part of it says.
+use mathlib.Core.Path.{_≡_, refl, sym}
+use mathlib.Core.Bool.{Bool, true, false, cond, not, _&&_, _||_}
+use mathlib.Core.List.{List, [], _∷_}
+use Prim.Native.Nat.{ℕ, zero, suc, _+_, _-_, _≤_, _<_}
+use native.Mathlib.Nat.{le-refl}
+use native.Mathlib.Omega.{arith}
+use native.Mathlib.Decide.{ℕ-discrete}
+use lib.ListN.{length, getD}
+use lib.Dec.{leb, ltb, eqb, lit≤}
+use borrow.Author.Tests.{eqb-true, ltb-true, leb-true, le-leb, lt-ltb, ne-eqb}
+use Rattle.ends.specs.Soundness.{bound, blankFrom, inOrder, isBlank, pieceFits, stageFits}
+use Rattle.strings.specs.SettingLimits.{Limits}
+use Rattle.ends.specs.laws.Moves.{Blank}
+use Rattle.ends.specs.RebuilderCall.{numberedStage}
+use Rattle.ends.specs.laws.Right.{Fits, StageOk, later-ok}
+use Rattle.ends.specs.Segments.{hashing, laterStage, middle, puttingIn, takingOut, tooSmall}
+use Rattle.ends.specs.States.{firstNumber, laterNumber, nextNumber, noPiece}
+use Rattle.ends.specs.declared.Piece.{Piece}
+use Rattle.strings.specs.declared.settings.Settings.{Settings}
+use Rattle.strings.specs.laws.Tests.{and-left, and-right, both, and-true, by-test}
+
+-- ---- entries behind the waiting pieces
+blank-piece : (pc : Piece) → isBlank pc ≡ true → pc ≡ noPiece
+unfolding isBlank
+blank-piece pc e =
+    let a = both (eqb (pc .x) 0) (eqb (pc .p) 0 && (eqb (pc .y) 0 && eqb (pc .q) 0)) e in
+    let b = both (eqb (pc .p) 0) (eqb (pc .y) 0 && eqb (pc .q) 0) (a .1) in
+    let c = both (eqb (pc .y) 0) (eqb (pc .q) 0) (b .1) in
+    (λ i. record { x = eqb-true (pc .x) 0 (a .0) i; p = eqb-true (pc .p) 0 (b .0) i; y = eqb-true (pc .y) 0 (c .0) i; q = eqb-true (pc .q) 0 (c .1) i })
+
+piece-blank : (pc : Piece) → pc ≡ noPiece → isBlank pc ≡ true
+unfolding isBlank
+piece-blank pc e = rw e refl
+
+from-blank : (arr : List Piece) (k i : ℕ) → blankFrom arr k i ≡ true → (j : ℕ) → i ≤ j → j < i + k → getD arr j noPiece ≡ noPiece
+unfolding blankFrom
+from-blank arr zero i e j a b = absurd (omega arith)
+from-blank arr (suc k) i e j a b = go (ℕ-discrete j i) (from-blank arr k (suc i) (and-right (isBlank (getD arr i noPiece)) _ e) j)
+  where
+    go : Dec (j ≡ i) → (suc i ≤ j → j < suc i + k → getD arr j noPiece ≡ noPiece) → getD arr j noPiece ≡ noPiece
+    go (yes z) f = rw z (blank-piece (getD arr i noPiece) (and-left (isBlank (getD arr i noPiece)) (blankFrom arr k (suc i)) e))
+    go (no z) f = f (omega arith) (omega arith)
+
+blank-from : (arr : List Piece) (k i : ℕ) → ((j : ℕ) → i ≤ j → j < i + k → getD arr j noPiece ≡ noPiece) → blankFrom arr k i ≡ true
+unfolding blankFrom
+blank-from arr zero i h = refl
+blank-from arr (suc k) i h =
+    and-true (isBlank (getD arr i noPiece)) (blankFrom arr k (suc i)) (piece-blank (getD arr i noPiece) (h i (omega arith) (omega arith))) (blank-from arr k (suc i) (λ j a b. h j (omega arith) (omega arith)))
+
+pub blank-is : (arr : List Piece) (w : ℕ) → w ≤ 32 → blankFrom arr (32 - w) w ≡ true → Blank arr w
+blank-is arr w h e i a b = from-blank arr (32 - w) w e i a (omega arith)
+
+pub is-blank : (arr : List Piece) (w : ℕ) → w ≤ 32 → Blank arr w → blankFrom arr (32 - w) w ≡ true
+is-blank arr w h e = blank-from arr (32 - w) w (λ j a b. e j a (omega arith))
+
+-- ---- the order of the pieces
+abbrev pub Ordered : (n e x y : ℕ) → List Piece → Type 0
+Ordered n e x y [] = Unit {0}
+Ordered n e x y (pc ∷ l) =
+    (x ≤ pc .x) × (y ≤ pc .y) × (0 < pc .p) × (pc .x + pc .p ≤ n) × (pc .y + pc .q ≤ e) × (pc .p ≤ bound (length l)) × Ordered n e (pc .x + pc .p) (pc .y + pc .q) l
+
+pub order-is : (n e x y : ℕ) (l : List Piece) → inOrder n e x y l ≡ true → Ordered n e x y l
+unfolding inOrder pieceFits
+order-is n e x y [] t = tt
+order-is n e x y (pc ∷ l) t =
+    let z = both (pieceFits n e x y (length l) pc) (inOrder n e (pc .x + pc .p) (pc .y + pc .q) l) t in
+    let a = both (leb x (pc .x)) (leb y (pc .y) && (ltb 0 (pc .p) && (leb (pc .x + pc .p) n && (leb (pc .y + pc .q) e && leb (pc .p) (bound (length l)))))) (z .0) in
+    let b = both (leb y (pc .y)) (ltb 0 (pc .p) && (leb (pc .x + pc .p) n && (leb (pc .y + pc .q) e && leb (pc .p) (bound (length l))))) (a .1) in
+    let c = both (ltb 0 (pc .p)) (leb (pc .x + pc .p) n && (leb (pc .y + pc .q) e && leb (pc .p) (bound (length l)))) (b .1) in
+    let d = both (leb (pc .x + pc .p) n) (leb (pc .y + pc .q) e && leb (pc .p) (bound (length l))) (c .1) in
+    let f = both (leb (pc .y + pc .q) e) (leb (pc .p) (bound (length l))) (d .1) in (
+      leb-true x (pc .x) (a .0),
+      leb-true y (pc .y) (b .0),
+      ltb-true 0 (pc .p) (c .0),
+      leb-true (pc .x + pc .p) n (d .0),
+      leb-true (pc .y + pc .q) e (f .0),
+      leb-true (pc .p) (bound (length l)) (f .1),
+      order-is n e (pc .x + pc .p) (pc .y + pc .q) l (z .1),
+    )
+
+pub is-order : (n e x y : ℕ) (l : List Piece) → Ordered n e x y l → inOrder n e x y l ≡ true
+unfolding inOrder pieceFits
+is-order n e x y [] o = refl
+is-order n e x y (pc ∷ l) o =
+    rw (le-leb x (pc .x) (o .0), le-leb y (pc .y) (o .1), lt-ltb 0 (pc .p) (o .2), le-leb (pc .x + pc .p) n (o .3), le-leb (pc .y + pc .q) e (o .4), le-leb (pc .p) (bound (length l)) (o .5))
+    (is-order n e (pc .x + pc .p) (pc .y + pc .q) l (o .6))
+
+pub ordered-from : (n e x y x′ y′ : ℕ) (l : List Piece) → x′ ≤ x → y′ ≤ y → Ordered n e x y l → Ordered n e x′ y′ l
+ordered-from n e x y x′ y′ [] h k o = tt
+ordered-from n e x y x′ y′ (pc ∷ l) h k o = ((let a = o .0 in omega arith), (let a = o .1 in omega arith), o .2, o .3, o .4, o .5, o .6)
+
+-- ---- stages
+pub later-fits : (S : Settings) (p q : ℕ) → stageFits S p q (laterNumber S p q) ≡ true
+unfolding stageFits laterNumber
+later-fits S p q = go (tooSmall S p q) refl
+  where
+    go : (t : Bool) → tooSmall S p q ≡ t → stageFits S p q (cond t 4 1) ≡ true
+    go true e = refl
+    go false e = rw e refl
+
+pub first-fits : (S : Settings) (p q : ℕ) → stageFits S p q (firstNumber S p q) ≡ true
+unfolding stageFits firstNumber
+first-fits S p q = go (eqb q p) refl (eqb (q + 1) p) refl (eqb q (p + 1)) refl
+  where
+    go : (a : Bool) → eqb q p ≡ a → (b : Bool) → eqb (q + 1) p ≡ b → (c : Bool) → eqb q (p + 1) ≡ c → stageFits S p q (cond a 0 (cond b 0 (cond c 0 (laterNumber S p q)))) ≡ true
+    go true e b f c g = rw e refl
+    go false e true f c g = rw (e, f) refl
+    go false e false f true g = rw (e, f, g) refl
+    go false e false f false g = later-fits S p q
+
+pub next-fits : (S : Settings) (p q j : ℕ) → j < 4 → stageFits S p q j ≡ true → stageFits S p q (nextNumber S p q j) ≡ true
+unfolding stageFits nextNumber
+next-fits S p q zero h e = later-fits S p q
+next-fits S p q (suc zero) h e = e
+next-fits S p q (suc (suc zero)) h e = e
+next-fits S p q (suc (suc (suc zero))) h e = refl
+next-fits S p q (suc (suc (suc (suc j)))) h e = absurd (omega arith)
+
+pub next-later : (S : Settings) (p q j : ℕ) → j + 1 ≤ nextNumber S p q j
+unfolding nextNumber laterNumber
+next-later S p q zero = by-test (λ (n : ℕ). 1 ≤ n) (tooSmall S p q) (λ e. lit≤ tt) (λ e. lit≤ tt)
+next-later S p q (suc j) = rw (ne-eqb (suc j) 0 (λ z. omega arith)) (le-refl (suc j + 1))
+
+pub stage-most : (S : Settings) (p q j : ℕ) → stageFits S p q j ≡ true → j ≤ 4
+unfolding stageFits
+stage-most S p q zero e = omega arith
+stage-most S p q (suc j) e =
+    let f : leb (suc j) 4 && (eqb (suc j) 4 || not (tooSmall S p q)) ≡ true = rw (ne-eqb (suc j) 0 (λ z. omega arith)) at e in
+    leb-true (suc j) 4 (and-left (leb (suc j) 4) (eqb (suc j) 4 || not (tooSmall S p q)) f)
+
+pub not-true : (t : Bool) → not t ≡ true → t ≡ false
+not-true true e = sym e
+not-true false e = refl
+
+three-fits : (S : Settings) → Limits S → (p q : ℕ) → tooSmall S p q ≡ false → Fits S p (middle (S .m) p ∷ (middle (S .m) p + S .m) ∷ (middle (S .m) p - S .m) ∷ [])
+unfolding laterStage
+three-fits S L p q e = rw e at (later-ok S L p q)
+
+-- a stage that fits is one that the protocol can have
+pub fits-stage : (S : Settings) → Limits S → (p q j : ℕ) → stageFits S p q j ≡ true → StageOk S p q (numberedStage S p q j)
+unfolding stageFits
+fits-stage S L p q zero e = go (eqb q p) refl (eqb (q + 1) p) refl e
+  where
+    go : (a : Bool) → eqb q p ≡ a → (b : Bool) → eqb (q + 1) p ≡ b → (a || (b || eqb q (p + 1))) ≡ true → StageOk S p q (cond a hashing (cond b puttingIn takingOut))
+    go true f b g e = eqb-true q p f
+    go false f true g e = eqb-true (q + 1) p g
+    go false f false g e = eqb-true q (p + 1) e
+fits-stage S L p q (suc zero) e = three-fits S L p q (not-true (tooSmall S p q) e)
+fits-stage S L p q (suc (suc zero)) e = three-fits S L p q (not-true (tooSmall S p q) e) .1
+fits-stage S L p q (suc (suc (suc zero))) e = three-fits S L p q (not-true (tooSmall S p q) e) .1 .1
+fits-stage S L p q (suc (suc (suc (suc j)))) e = tt

@@ -1,0 +1,210 @@
+// The holder: its call, which takes one question and gives the answer.
+ghost use mathlib.Core.Path.{_≡_};
+ghost use mathlib.Core.Bool.{true};
+ghost use Prim.Native.Nat.{_<_};
+ghost use lib.ListN.{length};
+ghost use Rattle.strings.specs.Bits.{range};
+ghost use Rattle.codes.specs.Syndrome.{syndrome};
+ghost use Rattle.codes.specs.Hash.{hash};
+ghost use Rattle.messages.specs.declared.KindRead.the-variants.{Known};
+ghost use Rattle.messages.specs.declared.QuestionRead.the-variants.{Asked};
+ghost use Rattle.messages.specs.Answers.{sizeAnswer, hashAnswer, syndromeAnswer, bitsAnswer, answerBytes};
+ghost use Rattle.ends.specs.HolderCall.{freshHolder, sameBitCount, inTurn, sends, answersTo, ofKind, holderCall};
+ghost use Rattle.ends.specs.HolderOutcome.{saidHolder, leavesHolder};
+ghost use Rattle.ends.specs.code.HolderParts.{refused, written, openedWith, oneMore, Answers, Able, Ready};
+use crate::Holder;
+use crate::sound::holder_is_sound;
+use messages::Kind;
+use messages::KindRead;
+use messages::Question;
+use messages::QuestionRead;
+use messages::WriteResult;
+use strings::Refusal;
+use strings::both;
+
+pub enum HolderAnswer {
+    // The reply begins with the answer, of so many bytes.
+    Replied(usize),
+    // The call is turned down; state and reply are as they were.
+    Refused(Refusal),
+}
+
+// The answer, and the state for the next call.
+pub struct HolderOut {
+    pub answer: HolderAnswer,
+    pub state: Holder,
+}
+
+// The state before the opening.
+pub fn fresh_holder() -> Holder
+    ensures { λ r. ⌜ r ≡ freshHolder ⌝ }
+{
+    Holder {
+        opened: 0,
+        bits: 0,
+        h: 0,
+        key: 0,
+        answers: 0,
+    }
+}
+
+// The call is turned down.
+fn refuse(st: Holder, e: Refusal) -> HolderOut
+    ensures { λ r. ⌜ r ≡ refused st e ⌝ }
+{
+    HolderOut {
+        answer: HolderAnswer::Refused(e),
+        state: st,
+    }
+}
+
+// What the writer of the reply gave: the state becomes `next` if there was room.
+fn reply_written(st: Holder, next: Holder, w: WriteResult) -> HolderOut
+    ensures { λ r. ⌜ r ≡ written st next w ⌝ }
+{
+    match w {
+        WriteResult::TooShort => refuse(st, Refusal::NoRoom),
+        WriteResult::Written(size) => HolderOut {
+            answer: HolderAnswer::Replied(size),
+            state: next,
+        },
+    }
+}
+
+// The state after an answer other than the opening's.
+fn one_more(st: Holder) -> Holder
+    requires { ⌜ st .answers < 1000000 ⌝ }
+    ensures { λ r. ⌜ r ≡ oneMore st ⌝ }
+{
+    Holder {
+        opened: st.opened,
+        bits: st.bits,
+        h: st.h,
+        key: st.key,
+        answers: st.answers + 1,
+    }
+}
+
+// The opening's answer for X of n bits.
+fn answer_open(st: Holder, n: u32, h: u32, key: u32, reply: &mut [u8]) -> HolderOut
+    ensures { λ r. ⌜ saidHolder r (now (reply .exit)) ≡ leavesHolder st (now (reply .entry)) (sends (length (now (reply .entry))) (openedWith n h key) (answerBytes (sizeAnswer n))) ⌝ }
+{
+    let next = Holder {
+        opened: 1,
+        bits: n,
+        h: h,
+        key: key,
+        answers: 1,
+    };
+    let w = messages::write_size(n, reply);
+    reply_written(st, next, w)
+}
+
+// The answer to a hash question.
+fn answer_hash(st: Holder, x: &[u8], start: u32, len: u32, reply: &mut [u8]) -> HolderOut
+    requires { ⌜ Answers st (now x) start len ⌝ }
+    ensures { λ r. ⌜ saidHolder r (now (reply .exit)) ≡ leavesHolder st (now (reply .entry)) (sends (length (now (reply .entry))) (oneMore st) (answerBytes (hashAnswer (hash (st .h) (st .key) (range (now (x .entry)) start len))))) ⌝ }
+{
+    let next = one_more(st);
+    let v = codes::hash_of(x, start as usize, len as usize, st.key, st.h);
+    let w = messages::write_hash(v, reply);
+    reply_written(st, next, w)
+}
+
+// The answer to a syndrome question.
+fn answer_syndrome(st: Holder, x: &[u8], start: u32, len: u32, reply: &mut [u8]) -> HolderOut
+    requires { ⌜ Answers st (now x) start len ⌝ }
+    ensures { λ r. ⌜ saidHolder r (now (reply .exit)) ≡ leavesHolder st (now (reply .entry)) (sends (length (now (reply .entry))) (oneMore st) (answerBytes (syndromeAnswer (syndrome (range (now (x .entry)) start len)) (hash (st .h) (st .key) (range (now (x .entry)) start len))))) ⌝ }
+{
+    let next = one_more(st);
+    let a = codes::syndrome_of(x, start as usize, len as usize);
+    let v = codes::hash_of(x, start as usize, len as usize, st.key, st.h);
+    let w = messages::write_syndrome(a as u32, v, reply);
+    reply_written(st, next, w)
+}
+
+// The answer to a bits question.
+fn answer_bits(st: Holder, x: &[u8], start: u32, len: u32, reply: &mut [u8]) -> HolderOut
+    requires { ⌜ Answers st (now x) start len ⌝ }
+    ensures { λ r. ⌜ saidHolder r (now (reply .exit)) ≡ leavesHolder st (now (reply .entry)) (sends (length (now (reply .entry))) (oneMore st) (answerBytes (bitsAnswer (range (now (x .entry)) start len)))) ⌝ }
+{
+    let next = one_more(st);
+    let w = messages::write_bits(x, start as usize, len as usize, reply);
+    reply_written(st, next, w)
+}
+
+// The answer to a question that was read, for X of n bits.
+fn answer_question(st: Holder, x: &[u8], n: u32, q: Question, reply: &mut [u8]) -> HolderOut
+    requires { ⌜ Ready st (now x) n q ⌝ }
+    ensures { λ r. ⌜ saidHolder r (now (reply .exit)) ≡ leavesHolder st (now (reply .entry)) (answersTo st (now (x .entry)) n (length (now (reply .entry))) (Asked q)) ⌝ }
+{
+    match q {
+        Question::AskOpen(h, key) => answer_open(st, n, h, key, reply),
+        Question::AskHash(start, len) => answer_hash(st, x, start, len, reply),
+        Question::AskSyndrome(start, len) => answer_syndrome(st, x, start, len, reply),
+        Question::AskBits(start, len) => answer_bits(st, x, start, len, reply),
+    }
+}
+
+// Whether a known kind is in turn: kind 0 before the opening, the others after it.
+fn is_in_turn(opened: u32, kind: Kind) -> bool
+    ensures { λ r. ⌜ r ≡ inTurn opened kind ⌝ }
+{
+    match kind {
+        Kind::Open => opened == 0,
+        Kind::Hash => opened == 1,
+        Kind::Syndrome => opened == 1,
+        Kind::Bits => opened == 1,
+    }
+}
+
+// The answer to a message of a known kind, whose fields begin at position `at`.
+fn answer_kind(
+    st: Holder,
+    x: &[u8],
+    n: u32,
+    kind: Kind,
+    msg: &[u8],
+    at: usize,
+    reply: &mut [u8],
+) -> HolderOut
+    requires { ⌜ Able st (now x) n ⌝ }
+    ensures { λ r. ⌜ saidHolder r (now (reply .exit)) ≡ leavesHolder st (now (reply .entry)) (ofKind st (now (x .entry)) n (now (msg .entry)) (length (now (reply .entry))) (Known kind at)) ⌝ }
+{
+    if !is_in_turn(st.opened, kind) {
+        return refuse(st, Refusal::OutOfTurn);
+    }
+    match messages::read_fields(kind, msg, at, n) {
+        QuestionRead::NoQuestion(e) => refuse(st, e),
+        QuestionRead::Asked(q) => answer_question(st, x, n, q, reply),
+    }
+}
+
+// Whether an opened holder is handed as many bits as at its opening.
+fn has_same_bit_count(st: Holder, bits: usize) -> bool
+    ensures { λ r. ⌜ r ≡ sameBitCount st bits ⌝ }
+{
+    if st.opened != 1 {
+        return true;
+    }
+    (st.bits as usize) == bits
+}
+
+// The holder's call on X, its bit count, a message and the buffer for the reply.
+pub fn holder_call(st: Holder, x: &[u8], bits: usize, msg: &[u8], reply: &mut [u8]) -> HolderOut
+    ensures { λ r. ⌜ saidHolder r (now (reply .exit)) ≡ leavesHolder st (now (reply .entry)) (holderCall st (now (x .entry)) bits (now (msg .entry)) (length (now (reply .entry)))) ⌝ }
+{
+    if !both(
+        strings::keeps_string_rule(x, bits),
+        has_same_bit_count(st, bits),
+    ) {
+        return refuse(st, Refusal::BadString);
+    }
+    if !both(holder_is_sound(st), st.answers < 1000000) {
+        return refuse(st, Refusal::OutOfTurn);
+    }
+    match messages::read_kind(msg) {
+        KindRead::NoKind(e) => refuse(st, e),
+        KindRead::Known(kind, at) => answer_kind(st, x, bits as u32, kind, msg, at, reply),
+    }
+}

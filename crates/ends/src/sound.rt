@@ -1,0 +1,293 @@
+// Tests of the states that are handed in: whether a run can hold them (01, refusal 3; docs/STATE.md).
+ghost use mathlib.Core.Path.{_≡_};
+ghost use mathlib.Core.Bool.{true, false};
+ghost use Prim.Native.Nat.{_+_, _-_, _*_, _/_, max, _≤_, _<_};
+ghost use Rattle.ends.specs.Soundness.{bound, holderSound, isBlank, blankFrom, pieceFits, inOrder, stageFits, stackSound, openingSound, piecesSound, wholeSound, sound, topFits, rowsFit, asksFit, lastAskFits, mostCounted, phaseSound};
+ghost use Rattle.ends.specs.Runs.{full};
+ghost use Rattle.ends.specs.States.{held};
+ghost use Rattle.ends.specs.code.StateCode.{Usable};
+ghost use Rattle.ends.specs.code.SoundCode.{Sized, Work, Sum};
+use crate::Holder;
+use crate::Piece;
+use crate::Rebuilder;
+use crate::state::too_small;
+use crate::state::top;
+use crate::state::wide;
+use crate::state::within_one;
+use strings::Settings;
+use strings::both;
+use strings::is_between;
+
+// Whether a run can hold the holder's state.
+pub fn holder_is_sound(st: Holder) -> bool
+    ensures { λ r. ⌜ r ≡ holderSound st ⌝ }
+{
+    if st.opened == 0 {
+        return both(
+            st.bits == 0,
+            both(st.h == 0, both(st.key == 0, st.answers == 0)),
+        );
+    }
+    let rest = both(
+        is_between(8, st.h, 32),
+        both(1 <= st.key, is_between(1, st.answers, 1000000)),
+    );
+    both(st.opened == 1, both(st.bits <= 65536, rest))
+}
+
+// Whether no field of the piece is set.
+fn is_blank(pc: Piece) -> bool
+    ensures { λ r. ⌜ r ≡ isBlank pc ⌝ }
+{
+    both(pc.x == 0, both(pc.p == 0, both(pc.y == 0, pc.q == 0)))
+}
+
+// Whether all entries behind the waiting pieces are zeros.
+fn blank_behind(st: Rebuilder) -> bool
+    requires { ⌜ st .waiting ≤ 32 ⌝ }
+    ensures { λ r. ⌜ r ≡ blankFrom (st .pieces) (32 - st .waiting) (st .waiting) ⌝ }
+{
+    let mut i = st.waiting as usize;
+    while i < 32 {
+        let pc = st.pieces[i];
+        if !is_blank(pc) {
+            return false;
+        }
+        i += 1;
+    }
+    true
+}
+
+// How long a waiting piece with d others to its right can be.
+fn length_bound(d: u32) -> u32
+    ensures { λ r. ⌜ r ≡ bound d ⌝ }
+{
+    let mut b: u32 = 65536;
+    let mut i: u32 = 0;
+    while i < d {
+        b = 5 * b / 8;
+        i += 1;
+    }
+    b
+}
+
+// Whether a waiting piece with d others to its right begins at x and y or later, ends by n and e, and is not too long.
+fn piece_fits(n: u64, e: u64, x: u64, y: u64, d: u32, pc: Piece) -> bool
+    ensures { λ r. ⌜ r ≡ pieceFits n e x y d pc ⌝ }
+{
+    let a = wide(pc.x);
+    let b = wide(pc.y);
+    let p = wide(pc.p);
+    let q = wide(pc.q);
+    let ends = both(a + p <= n, both(b + q <= e, pc.p <= length_bound(d)));
+    both(x <= a, both(y <= b, both(0 < pc.p, ends)))
+}
+
+// Whether the waiting pieces, from the leftmost on, follow one another.
+fn in_order(st: Rebuilder) -> bool
+    requires { ⌜ st .waiting ≤ 32 ⌝ }
+    ensures { λ r. ⌜ r ≡ inOrder (st .n) (st .ybits) 0 0 (held (st .waiting) (st .pieces)) ⌝ }
+{
+    let n = wide(st.n);
+    let e = wide(st.ybits);
+    let mut x: u64 = 0;
+    let mut y: u64 = 0;
+    let mut i = st.waiting;
+    while 0 < i {
+        i -= 1;
+        let at = i as usize;
+        let pc = st.pieces[at];
+        if !piece_fits(n, e, x, y, i, pc) {
+            return false;
+        }
+        x = wide(pc.x) + wide(pc.p);
+        y = wide(pc.y) + wide(pc.q);
+    }
+    true
+}
+
+// The sum of a·floor(p/m) + b over the waiting pieces.
+fn work_left(st: Rebuilder, a: u64, b: u64) -> u64
+    requires { ⌜ Work st a b ⌝ }
+    ensures { λ r. ⌜ Sum st a b r ⌝ }
+{
+    let m = wide(st.settings.m);
+    let mut sum: u64 = 0;
+    let mut i = st.waiting;
+    while 0 < i {
+        i -= 1;
+        let at = i as usize;
+        let pc = st.pieces[at];
+        let p = wide(pc.p);
+        sum = sum + (a * (p / m) + b);
+    }
+    sum
+}
+
+// Whether the used rows and those to come are within the sheet's.
+fn rows_fit(st: Rebuilder) -> bool
+    requires { ⌜ Sized st ⌝ }
+    ensures { λ r. ⌜ r ≡ rowsFit st ⌝ }
+{
+    let n = wide(st.n);
+    let m = wide(st.settings.m);
+    let used = wide(st.rows);
+    let left = work_left(st, 2, 1);
+    used + left <= 2 * (n / m) + 1
+}
+
+// Whether the questions answered and those to come are within the bound.
+fn asks_fit(st: Rebuilder) -> bool
+    requires { ⌜ Sized st ⌝ }
+    ensures { λ r. ⌜ r ≡ asksFit st ⌝ }
+{
+    let n = wide(st.n);
+    let m = wide(st.settings.m);
+    let answered = wide(st.answered);
+    let stage = wide(st.stage);
+    let left = work_left(st, 9, 5);
+    answered + left <= 9 * (n / m) + 6 + stage
+}
+
+// Whether one more question is within the bound.
+fn last_ask_fits(st: Rebuilder) -> bool
+    requires { ⌜ Sized st ⌝ }
+    ensures { λ r. ⌜ r ≡ lastAskFits st ⌝ }
+{
+    let n = wide(st.n);
+    let m = wide(st.settings.m);
+    let answered = wide(st.answered);
+    answered + 1 <= 9 * (n / m) + 6
+}
+
+// Whether the stage suits lengths p and q.
+fn stage_fits(s: Settings, p: u32, q: u32, j: u32) -> bool
+    requires { ⌜ Usable s ⌝ }
+    ensures { λ r. ⌜ r ≡ stageFits s p q j ⌝ }
+{
+    if j == 0 {
+        return within_one(p, q);
+    }
+    if 4 < j {
+        return false;
+    }
+    if j == 4 {
+        return true;
+    }
+    !too_small(s, p, q)
+}
+
+// Whether the stage suits the leftmost piece; it is 0 if none waits.
+fn top_stage_fits(st: Rebuilder) -> bool
+    requires { ⌜ Sized st ⌝ }
+    ensures { λ r. ⌜ r ≡ topFits st ⌝ }
+{
+    if st.waiting == 0 {
+        return st.stage == 0;
+    }
+    let pc = top(st);
+    stage_fits(st.settings, pc.p, pc.q, st.stage)
+}
+
+// Whether the waiting pieces, the stage and the used rows are such as a run can hold.
+fn stack_is_sound(st: Rebuilder) -> bool
+    requires { ⌜ Sized st ⌝ }
+    ensures { λ r. ⌜ r ≡ stackSound st ⌝ }
+{
+    both(top_stage_fits(st), both(in_order(st), rows_fit(st)))
+}
+
+// The bytes of the answer with all n bits.
+fn full_size(n: u32) -> u32
+    requires { ⌜ n ≤ 65536 ⌝ }
+    ensures { λ r. ⌜ r ≡ full n ⌝ }
+{
+    1 + (n + 7) / 8
+}
+
+// The most bytes that one answer has.
+fn answer_bound(n: u32) -> u32
+    requires { ⌜ n ≤ 65536 ⌝ }
+    ensures { λ r. ⌜ r ≡ max 9 (full n) ⌝ }
+{
+    let f = full_size(n);
+    if f < 9 {
+        return 9;
+    }
+    f
+}
+
+// The most bytes that can be counted while pieces are worked on.
+fn most_counted(st: Rebuilder) -> u32
+    requires { ⌜ Sized st ⌝ }
+    ensures { λ r. ⌜ r ≡ mostCounted st ⌝ }
+{
+    if st.waiting == 0 {
+        return st.settings.ceiling + full_size(st.n) + answer_bound(st.n);
+    }
+    st.settings.ceiling
+}
+
+// For a state that awaits the opening's answer.
+fn opening_is_sound(st: Rebuilder) -> bool
+    ensures { λ r. ⌜ r ≡ openingSound st ⌝ }
+{
+    let rest = both(st.rows == 0, both(st.stage == 0, st.waiting == 0));
+    both(
+        st.n == 0,
+        both(st.answered == 0, both(st.counted == 0, rest)),
+    )
+}
+
+// For a state that works on pieces, or is finished.
+fn pieces_are_sound(st: Rebuilder) -> bool
+    requires { ⌜ Sized st ⌝ }
+    ensures { λ r. ⌜ r ≡ piecesSound st ⌝ }
+{
+    let counts = both(asks_fit(st), st.counted <= most_counted(st));
+    both(stack_is_sound(st), both(1 <= st.answered, counts))
+}
+
+// For a state that awaits all bits.
+fn whole_is_sound(st: Rebuilder) -> bool
+    requires { ⌜ Sized st ⌝ }
+    ensures { λ r. ⌜ r ≡ wholeSound st ⌝ }
+{
+    let past = st.settings.ceiling < st.counted;
+    let count = both(past, st.counted <= st.settings.ceiling + answer_bound(st.n));
+    let rest = both(last_ask_fits(st), both(0 < st.waiting, count));
+    both(stack_is_sound(st), both(1 <= st.answered, rest))
+}
+
+// By phase.
+fn phase_is_sound(st: Rebuilder) -> bool
+    requires { ⌜ Sized st ⌝ }
+    ensures { λ r. ⌜ r ≡ phaseSound st ⌝ }
+{
+    if st.phase == 0 {
+        return opening_is_sound(st);
+    }
+    if st.phase == 1 {
+        return pieces_are_sound(st);
+    }
+    both(st.phase == 2, whole_is_sound(st))
+}
+
+// Whether a run can hold the rebuilder's state. The limits come first: the later tests count on them.
+pub fn rebuilder_is_sound(st: Rebuilder) -> bool
+    ensures { λ r. ⌜ r ≡ sound st ⌝ }
+{
+    if !st.settings.is_within_limits() {
+        return false;
+    }
+    if 65536 < st.ybits {
+        return false;
+    }
+    if 65536 < st.n {
+        return false;
+    }
+    if 32 < st.waiting {
+        return false;
+    }
+    both(blank_behind(st), phase_is_sound(st))
+}

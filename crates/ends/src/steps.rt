@@ -1,0 +1,314 @@
+// What an answer that was read makes of state, string, sheet and question: steps 1 to 4 of 01, "The rebuilder", and the whole string.
+// The functions require what the call has tested before it comes to them: a sound state that asks this question, and enough room.
+ghost use mathlib.Core.Path.{_≡_};
+ghost use mathlib.Core.Bool.{true};
+ghost use mathlib.Core.List.{List};
+ghost use Prim.Native.Nat.{ℕ, _+_, _*_, _≤_, _<_};
+ghost use lib.ListN.{length};
+ghost use Rattle.strings.specs.Bits.{range, bytesFor};
+ghost use Rattle.codes.specs.code.Edits.{Fits};
+ghost use Rattle.messages.specs.Answers.{sizeAnswer, hashAnswer, syndromeAnswer, bitsAnswer};
+ghost use Rattle.ends.specs.Segments.{howNumber, row};
+ghost use Rattle.ends.specs.States.{top, popped, restaged, retried, splitAt};
+ghost use Rattle.ends.specs.Soundness.{sound};
+ghost use Rattle.ends.specs.declared.SheetChange.the-variants.{NoRow, AddRow};
+ghost use Rattle.ends.specs.declared.How.the-variants.{ByAnchor};
+ghost use Rattle.ends.specs.RebuilderCall.{tallied, stepOf};
+ghost use Rattle.ends.specs.RebuilderOutcome.{saidRebuilder, leavesRebuilder};
+ghost use Rattle.ends.specs.code.RebuilderParts.{OutIs, Acting, Splitting, Lending, OneApart, repairHow, trialStep, stepTaken, WholeDue, Opening, BitsDue, dueLength};
+use crate::How;
+use crate::Rebuilder;
+use crate::Row;
+use crate::SheetChange;
+use crate::anchors;
+use crate::anchors::Place;
+use crate::rebuilding::RebuilderAnswer;
+use crate::rebuilding::RebuilderOut;
+use crate::state;
+use crate::state::Plan;
+use codes::Edit;
+use codes::Repair;
+use messages::WriteResult;
+
+// The number of how.
+fn how_number(how: How) -> u32
+    ensures { λ r. ⌜ r ≡ howNumber how ⌝ }
+{
+    match how {
+        How::ByHash => 1,
+        How::ByPutIn => 2,
+        How::ByTakeOut => 3,
+        How::ByAnchor => 4,
+        How::ByBits => 5,
+    }
+}
+
+// What a call gives that was taken.
+fn give(answer: RebuilderAnswer, s: Rebuilder, change: SheetChange) -> RebuilderOut
+    ensures { λ r. ⌜ r ≡ record { answer = answer; state = s; sheet = change; answered = s .answered; counted = s .counted } ⌝ }
+{
+    RebuilderOut {
+        answer: answer,
+        state: s,
+        sheet: change,
+        answered: s.answered,
+        counted: s.counted,
+    }
+}
+
+// The next question of the state s is written.
+fn finish(s: Rebuilder, change: SheetChange, question: &mut [u8]) -> RebuilderOut
+    requires { ⌜ (sound s ≡ true) × (8 ≤ length (now question)) ⌝ }
+    ensures { λ r. ⌜ OutIs r s change (now (question .entry)) (now (question .exit)) ⌝ }
+{
+    match state::plan_next(s) {
+        Plan::Finished => give(RebuilderAnswer::Finished, s, change),
+        Plan::Ask(q) => match messages::write_question(q, question) {
+            WriteResult::TooShort => give(RebuilderAnswer::Finished, s, change),
+            WriteResult::Written(size) => give(RebuilderAnswer::Asks(size), s, change),
+        },
+    }
+}
+
+// The leftmost piece is settled.
+fn settle(st: Rebuilder, size: u32, how: How, question: &mut [u8]) -> RebuilderOut
+    requires { ⌜ Acting st size (length (now question)) ⌝ }
+    ensures { λ r. ⌜ OutIs r (tallied (restaged (popped st)) size 1) (AddRow (st .rows) (row (top st .x) (top st .p) how)) (now (question .entry)) (now (question .exit)) ⌝ }
+{
+    let t = state::top(st);
+    let one = state::pop(st);
+    let two = state::restage(one);
+    let s = state::tally(two, size, 1);
+    let number = how_number(how);
+    let line = Row {
+        start: t.x,
+        len: t.p,
+        how: number,
+    };
+    finish(s, SheetChange::AddRow(st.rows, line), question)
+}
+
+// The leftmost piece is not settled, and goes to its next stage.
+fn leave_waiting(st: Rebuilder, size: u32, question: &mut [u8]) -> RebuilderOut
+    requires { ⌜ Acting st size (length (now question)) ⌝ }
+    requires { ⌜ st .stage < 4 ⌝ }
+    ensures { λ r. ⌜ OutIs r (tallied (retried st) size 0) NoRow (now (question .entry)) (now (question .exit)) ⌝ }
+{
+    let one = state::retry(st);
+    let s = state::tally(one, size, 0);
+    finish(s, SheetChange::NoRow, question)
+}
+
+// The leftmost piece is split by the anchor of its stage, at offset s, placed at r.
+fn split(st: Rebuilder, size: u32, s: u32, r: u32, question: &mut [u8]) -> RebuilderOut
+    requires { ⌜ Acting st size (length (now question)) ⌝ }
+    requires { ⌜ Splitting st s r ⌝ }
+    ensures { λ o. ⌜ OutIs o (tallied (splitAt st s r) size 1) (AddRow (st .rows) (row (top st .x + s) (st .settings .m) ByAnchor)) (now (question .entry)) (now (question .exit)) ⌝ }
+{
+    let t = state::top(st);
+    let one = state::split_at(st, s, r);
+    let next = state::tally(one, size, 1);
+    let line = Row {
+        start: t.x + s,
+        len: st.settings.m,
+        how: 4,
+    };
+    finish(next, SheetChange::AddRow(st.rows, line), question)
+}
+
+// A trial: the edited copy of the leftmost piece is written if its hash is v. Nothing is written before.
+fn try_edit(
+    st: Rebuilder,
+    y: &[u8],
+    e: Edit,
+    how: How,
+    v: u32,
+    size: u32,
+    string: &mut [u8],
+    question: &mut [u8],
+) -> RebuilderOut
+    requires { ⌜ Acting st size (length (now question)) ⌝ }
+    requires { ⌜ Lending st (now y) (now string) ⌝ }
+    requires { ⌜ (st .stage < 4) × Fits e (top st .q) (top st .p) ⌝ }
+    ensures { λ r. ⌜ saidRebuilder r (now (string .exit)) (now (question .exit)) ≡ leavesRebuilder st (now (string .entry)) (now (question .entry)) (stepTaken (trialStep st (now (y .entry)) size v how e)) ⌝ }
+{
+    let t = state::top(st);
+    let x = t.x as usize;
+    let p = t.p as usize;
+    let start = t.y as usize;
+    let q = t.q as usize;
+    let g = codes::hash_edited(y, start, q, e, p, st.settings.key, st.settings.h);
+    if g != v {
+        return leave_waiting(st, size, question);
+    }
+    codes::copy_edited(y, start, q, e, p, string, x);
+    settle(st, size, how, question)
+}
+
+// The hash v of a piece whose copy has its length.
+pub fn take_hash(
+    st: Rebuilder,
+    y: &[u8],
+    v: u32,
+    size: u32,
+    string: &mut [u8],
+    question: &mut [u8],
+) -> RebuilderOut
+    requires { ⌜ Acting st size (length (now question)) ⌝ }
+    requires { ⌜ Lending st (now y) (now string) ⌝ }
+    requires { ⌜ (st .stage ≡ 0) × (top st .q ≡ top st .p) ⌝ }
+    ensures { λ r. ⌜ saidRebuilder r (now (string .exit)) (now (question .exit)) ≡ leavesRebuilder st (now (string .entry)) (now (question .entry)) (stepTaken (stepOf st (now (y .entry)) size (hashAnswer v))) ⌝ }
+{
+    try_edit(st, y, Edit::Keep, How::ByHash, v, size, string, question)
+}
+
+// How a piece of p bits is repaired from a copy of q bits.
+fn repair_how(p: u32, q: u32) -> How
+    requires { ⌜ q < 65537 ⌝ }
+    ensures { λ r. ⌜ r ≡ repairHow p q ⌝ }
+{
+    if q + 1 == p {
+        return How::ByPutIn;
+    }
+    How::ByTakeOut
+}
+
+// The syndrome a and hash v of a piece whose copy is one bit shorter or longer.
+pub fn take_syndrome(
+    st: Rebuilder,
+    y: &[u8],
+    a: u32,
+    v: u32,
+    size: u32,
+    string: &mut [u8],
+    question: &mut [u8],
+) -> RebuilderOut
+    requires { ⌜ Acting st size (length (now question)) ⌝ }
+    requires { ⌜ Lending st (now y) (now string) ⌝ }
+    requires { ⌜ (st .stage ≡ 0) × OneApart (top st .p) (top st .q) ⌝ }
+    ensures { λ r. ⌜ saidRebuilder r (now (string .exit)) (now (question .exit)) ≡ leavesRebuilder st (now (string .entry)) (now (question .entry)) (stepTaken (stepOf st (now (y .entry)) size (syndromeAnswer a v))) ⌝ }
+{
+    let t = state::top(st);
+    let p = t.p as usize;
+    let start = t.y as usize;
+    let q = t.q as usize;
+    let how = repair_how(t.p, t.q);
+    match codes::find_repair(y, start, q, p, a as usize) {
+        Repair::Nothing => leave_waiting(st, size, question),
+        Repair::Found(e) => try_edit(st, y, e, how, v, size, string, question),
+    }
+}
+
+// All bits of a piece.
+fn take_piece(
+    st: Rebuilder,
+    bits: &[u8],
+    size: u32,
+    string: &mut [u8],
+    question: &mut [u8],
+) -> RebuilderOut
+    requires { ⌜ Acting st size (length (now question)) ⌝ }
+    requires { ⌜ (st .n ≤ 8 * length (now string)) × (4 ≤ st .stage) ⌝ }
+    requires { ⌜ top st .p ≤ 8 * length (now bits) ⌝ }
+    ensures { λ r. ⌜ ((y : List ℕ) → saidRebuilder r (now (string .exit)) (now (question .exit)) ≡ leavesRebuilder st (now (string .entry)) (now (question .entry)) (stepTaken (stepOf st y size (bitsAnswer (range (now (bits .entry)) 0 (top st .p)))))) ⌝ }
+{
+    let t = state::top(st);
+    strings::copy_bits(bits, 0, t.p as usize, string, t.x as usize);
+    settle(st, size, How::ByBits, question)
+}
+
+// The m bits of an anchor.
+fn take_anchor(
+    st: Rebuilder,
+    y: &[u8],
+    bits: &[u8],
+    size: u32,
+    string: &mut [u8],
+    question: &mut [u8],
+) -> RebuilderOut
+    requires { ⌜ Acting st size (length (now question)) ⌝ }
+    requires { ⌜ Lending st (now y) (now string) ⌝ }
+    requires { ⌜ (0 < st .stage) × (st .stage < 4) ⌝ }
+    requires { ⌜ st .settings .m ≤ 8 * length (now bits) ⌝ }
+    ensures { λ r. ⌜ saidRebuilder r (now (string .exit)) (now (question .exit)) ≡ leavesRebuilder st (now (string .entry)) (now (question .entry)) (stepTaken (stepOf st (now (y .entry)) size (bitsAnswer (range (now (bits .entry)) 0 (st .settings .m))))) ⌝ }
+{
+    let t = state::top(st);
+    let m = st.settings.m as usize;
+    let k = st.settings.k as usize;
+    let s = state::anchor_offset(st.settings.m, t.p, st.stage);
+    let place = anchors::place_anchor(
+        y,
+        t.y as usize,
+        t.q as usize,
+        t.p as usize,
+        s as usize,
+        m,
+        k,
+        bits,
+        0,
+    );
+    match place {
+        Place::Nowhere => leave_waiting(st, size, question),
+        Place::At(r) => {
+            let x = (t.x + s) as usize;
+            strings::copy_bits(bits, 0, m, string, x);
+            split(st, size, s, r as u32, question)
+        }
+    }
+}
+
+// All bits of the string.
+fn take_whole(
+    st: Rebuilder,
+    bits: &[u8],
+    size: u32,
+    string: &mut [u8],
+    question: &mut [u8],
+) -> RebuilderOut
+    requires { ⌜ WholeDue st size (length (now question)) ⌝ }
+    requires { ⌜ (st .n ≤ 8 * length (now string)) × (st .n ≤ 8 * length (now bits)) ⌝ }
+    ensures { λ r. ⌜ ((y : List ℕ) → saidRebuilder r (now (string .exit)) (now (question .exit)) ≡ leavesRebuilder st (now (string .entry)) (now (question .entry)) (stepTaken (stepOf st y size (bitsAnswer (range (now (bits .entry)) 0 (st .n)))))) ⌝ }
+{
+    let s = state::whole_state(st, size);
+    strings::copy_bits(bits, 0, st.n as usize, string, 0);
+    let line = Row {
+        start: 0,
+        len: st.n,
+        how: 5,
+    };
+    finish(s, SheetChange::OneRow(st.rows, line), question)
+}
+
+// The length n of the string.
+pub fn take_size(st: Rebuilder, n: u32, string: &mut [u8], question: &mut [u8]) -> RebuilderOut
+    requires { ⌜ Opening st n (length (now question)) ⌝ }
+    requires { ⌜ bytesFor n ≤ length (now string) ⌝ }
+    ensures { λ r. ⌜ ((y : List ℕ) (size : ℕ) → saidRebuilder r (now (string .exit)) (now (question .exit)) ≡ leavesRebuilder st (now (string .entry)) (now (question .entry)) (stepTaken (stepOf st y size (sizeAnswer n)))) ⌝ }
+{
+    let s = state::open_state(st, n);
+    strings::clear_bytes(string, 0, (n as usize + 7) / 8);
+    finish(s, SheetChange::NoRow, question)
+}
+
+// The bits that are awaited.
+pub fn take_bits(
+    st: Rebuilder,
+    y: &[u8],
+    bits: &[u8],
+    size: u32,
+    string: &mut [u8],
+    question: &mut [u8],
+) -> RebuilderOut
+    requires { ⌜ BitsDue st size (length (now question)) ⌝ }
+    requires { ⌜ Lending st (now y) (now string) ⌝ }
+    requires { ⌜ dueLength st ≤ 8 * length (now bits) ⌝ }
+    ensures { λ r. ⌜ saidRebuilder r (now (string .exit)) (now (question .exit)) ≡ leavesRebuilder st (now (string .entry)) (now (question .entry)) (stepTaken (stepOf st (now (y .entry)) size (bitsAnswer (range (now (bits .entry)) 0 (dueLength st))))) ⌝ }
+{
+    if st.phase == 2 {
+        return take_whole(st, bits, size, string, question);
+    }
+    if 4 <= st.stage {
+        return take_piece(st, bits, size, string, question);
+    }
+    take_anchor(st, y, bits, size, string, question)
+}

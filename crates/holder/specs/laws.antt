@@ -1,2 +1,0 @@
--- Laws of the definitions, for proofs.
-pub mod HolderCodeLaws

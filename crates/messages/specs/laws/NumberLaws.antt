@@ -1,0 +1,487 @@
+-- Laws of numbers: their lengths, the turns of a writer and of a reader, reading what was written, and the one form of each number.
+use mathlib.Core.Path.{_≡_, refl, sym, ap, ap₂, _∙_}
+use mathlib.Core.Bool.{cond}
+use mathlib.Core.List.{List, [], _∷_, _++_, append-nil}
+use Prim.Native.Nat.{ℕ, zero, suc, _+_, _-_, _*_, _/_, _%_, _≤_, _<_}
+use native.Mathlib.Nat.{mul-add, mul-assoc}
+use native.Mathlib.Numerals.{add-one}
+use native.Mathlib.Decide.{decLt}
+use native.Mathlib.Omega.{arith}
+use lib.ListN.{length, getD, set, take, drop, length-drop, drop-of-length-le}
+use lib.Seq.{sets, drop-drop, drop-append-seam, drop-append-le, drop-cons, drop-at, take-at, take-add, length-take-le}
+use lib.Dec.{ltb, leb, eqb}
+use borrow.Author.Tests.{lt-ltb, le-ltb, le-leb, lt-leb, eq-eqb, ne-eqb, ltb-true, ltb-false, leb-false, eqb-false}
+use Rattle.strings.specs.laws.PackLaws.{Bytes}
+use Rattle.strings.specs.laws.Tests.{by-test}
+use Rattle.strings.specs.declared.Refusal.{Refusal}
+use Rattle.strings.specs.declared.Refusal.the-variants.{CutShort, BadNumber}
+use Rattle.messages.specs.declared.numbers.NumberRead.{NumberRead}
+use Rattle.messages.specs.declared.numbers.NumberRead.the-variants.{Value, NoNumber}
+use Rattle.messages.specs.Numbers.{groups, number, nextByte, numberAt}
+
+-- ---- a number's bytes, from the first on
+abbrev lim : ℕ → ℕ
+lim zero = 128
+lim (suc k) = 128 * lim k
+
+-- one group more may be allowed
+groups-more : (k v : ℕ) → v < lim k → groups k v ≡ groups (suc k) v
+unfolding groups
+groups-more zero v h = rw (lt-ltb v 128 h) refl
+groups-more (suc k) v h = ap (λ (l : List ℕ). cond (ltb v 128) (v ∷ []) ((v % 128 + 128) ∷ l)) (groups-more k (v / 128) (omega arith))
+
+pub number-last : (v : ℕ) → v < 128 → number v ≡ v ∷ []
+unfolding number groups
+number-last v h = rw (lt-ltb v 128 h) refl
+
+pub number-next : (v : ℕ) → 128 ≤ v → v < 4294967296 → number v ≡ (v % 128 + 128) ∷ number (v / 128)
+unfolding number groups
+number-next v h m = rw (le-ltb v 128 h) (ap (λ (l : List ℕ). (v % 128 + 128) ∷ l) (unfold groups in groups-more 3 (v / 128) (omega arith)))
+
+-- ---- lengths
+pub size-last : (v : ℕ) → v < 128 → length (number v) ≡ 1
+size-last v h = ap length (number-last v h)
+
+pub size-next : (v : ℕ) → 128 ≤ v → v < 4294967296 → length (number v) ≡ suc (length (number (v / 128)))
+size-next v h m = ap length (number-next v h m)
+
+pub size-two : (v : ℕ) → 128 ≤ v → v < 16384 → length (number v) ≡ 2
+size-two v h k = size-next v h (omega arith) ∙ ap suc (size-last (v / 128) (omega arith))
+
+pub size-three : (v : ℕ) → 16384 ≤ v → v < 2097152 → length (number v) ≡ 3
+size-three v h k = size-next v (omega arith) (omega arith) ∙ ap suc (size-two (v / 128) (omega arith) (omega arith))
+
+pub size-four : (v : ℕ) → 2097152 ≤ v → v < 268435456 → length (number v) ≡ 4
+size-four v h k = size-next v (omega arith) (omega arith) ∙ ap suc (size-three (v / 128) (omega arith) (omega arith))
+
+pub size-five : (v : ℕ) → 268435456 ≤ v → v < 4294967296 → length (number v) ≡ 5
+size-five v h k = size-next v (omega arith) (omega arith) ∙ ap suc (size-four (v / 128) (omega arith) (omega arith))
+
+groups-some : (k v : ℕ) → 1 ≤ length (groups k v)
+unfolding groups
+groups-some zero v = omega arith
+groups-some (suc k) v = by-test (λ (l : List ℕ). 1 ≤ length l) (ltb v 128) (λ e. omega arith) (λ e. omega arith)
+
+groups-most : (k v : ℕ) → length (groups k v) ≤ suc k
+unfolding groups
+groups-most zero v = omega arith
+groups-most (suc k) v =
+    let h = groups-most k (v / 128) in
+    by-test (λ (l : List ℕ). length l ≤ suc (suc k)) (ltb v 128) (λ e. omega arith) (λ e. omega arith)
+
+pub size-some : (v : ℕ) → 1 ≤ length (number v)
+unfolding number
+size-some v = groups-some 4 v
+
+pub size-most : (v : ℕ) → length (number v) ≤ 5
+unfolding number
+size-most v = groups-most 4 v
+
+-- starts, lengths and syndromes
+pub size-short : (v : ℕ) → v ≤ 65536 → length (number v) ≤ 3
+size-short v h = go (decLt v 128) (decLt v 16384)
+  where
+    go : Dec (v < 128) → Dec (v < 16384) → length (number v) ≤ 3
+    go (yes l) m = let e = size-last v l in omega arith
+    go (no l) (yes m) = let e = size-two v (omega arith) m in omega arith
+    go (no l) (no m) = let e = size-three v (omega arith) (omega arith) in omega arith
+
+-- ---- a number's bytes are bytes
+-- ---- a turn of the writer, and its end
+pub write-turn : (s u : List ℕ) (i v : ℕ) → 128 ≤ v → v < 4294967296 → sets s i (number v) ≡ u → sets (set s i (v % 128 + 128)) (i + 1) (number (v / 128)) ≡ u
+write-turn s u i v h m f = rw (add-one) (rw (number-next v h m) at f)
+
+pub write-last : (s u : List ℕ) (i v : ℕ) → v < 128 → sets s i (number v) ≡ u → set s i v ≡ u
+write-last s u i v h f = rw (number-last v h) at f
+
+-- ---- a turn of the reader
+-- the weight of the byte that k more may follow
+abbrev pub weight : ℕ → ℕ
+weight zero = 268435456
+weight (suc zero) = 2097152
+weight (suc (suc zero)) = 16384
+weight (suc (suc (suc k))) = 128
+
+pub weight-most : (k : ℕ) → weight k ≤ 268435456
+weight-most zero = omega arith
+weight-most (suc zero) = omega arith
+weight-most (suc (suc zero)) = omega arith
+weight-most (suc (suc (suc k))) = omega arith
+
+module _ (s : List ℕ) (k i w v : ℕ) where
+  pub read-cut : length s ≤ i → nextByte k s i w v ≡ NoNumber CutShort
+  unfolding nextByte
+  read-cut h = go k
+    where
+      go : (k : ℕ) → nextByte k s i w v ≡ NoNumber CutShort
+      go zero = rw (le-leb (length s) i h) refl
+      go (suc k) = rw (le-leb (length s) i h) refl
+
+  pub read-zero : i < length s → getD s i 0 ≡ 0 → nextByte k s i w v ≡ NoNumber BadNumber
+  unfolding nextByte
+  read-zero h e = go k
+    where
+      go : (k : ℕ) → nextByte k s i w v ≡ NoNumber BadNumber
+      go zero = rw (lt-leb (length s) i h, eq-eqb (getD s i 0) 0 e) refl
+      go (suc k) = rw (lt-leb (length s) i h, eq-eqb (getD s i 0) 0 e) refl
+
+  pub read-last : 0 < k → i < length s → (getD s i 0 ≡ 0 → ⊥) → getD s i 0 < 128 → nextByte k s i w v ≡ Value (v + w * getD s i 0) (i + 1)
+  unfolding nextByte
+  read-last p h e l = go k p
+    where
+      go : (k : ℕ) → 0 < k → nextByte k s i w v ≡ Value (v + w * getD s i 0) (i + 1)
+      go zero p = absurd (omega arith)
+      go (suc k) p = rw (lt-leb (length s) i h, ne-eqb (getD s i 0) 0 e, lt-ltb (getD s i 0) 128 l) refl
+
+  pub read-next : 0 < k → i < length s → (getD s i 0 ≡ 0 → ⊥) → 128 ≤ getD s i 0 → nextByte k s i w v ≡ nextByte (k - 1) s (i + 1) (w * 128) (v + w * (getD s i 0 - 128))
+  unfolding nextByte
+  read-next p h e l = go k p
+    where
+      go : (k : ℕ) → 0 < k → nextByte k s i w v ≡ nextByte (k - 1) s (i + 1) (w * 128) (v + w * (getD s i 0 - 128))
+      go zero p = absurd (omega arith)
+      go (suc k) p =
+          let q : suc k - 1 ≡ k = omega arith in
+          rw (lt-leb (length s) i h, ne-eqb (getD s i 0) 0 e, le-ltb (getD s i 0) 128 l, q) refl
+
+-- the value stays below the next byte's weight
+pub turn-fits : (k w v b : ℕ) → 0 < k → k ≤ 3 → w ≡ weight k → v < w → b < 128 → (w * b < 268435456) × (v + w * b < 268435456) × (v + w * b < w * 128) × (w * 128 ≡ weight (k - 1))
+turn-fits zero w v b p q e l m = absurd (omega arith)
+turn-fits (suc zero) w v b p q e l m = rw e (omega arith, (let l′ : v < 2097152 = rw e at l in omega arith), (let l′ : v < 2097152 = rw e at l in omega arith), refl)
+turn-fits (suc (suc zero)) w v b p q e l m = rw e (omega arith, (let l′ : v < 16384 = rw e at l in omega arith), (let l′ : v < 16384 = rw e at l in omega arith), refl)
+turn-fits (suc (suc (suc zero))) w v b p q e l m = rw e (omega arith, (let l′ : v < 128 = rw e at l in omega arith), (let l′ : v < 128 = rw e at l in omega arith), refl)
+turn-fits (suc (suc (suc (suc k)))) w v b p q e l m = absurd (omega arith)
+
+pub read-first : (s : List ℕ) (at v : ℕ) → at < length s → 128 ≤ getD s at 0 → v ≡ getD s at 0 - 128 → nextByte 3 s (at + 1) 128 v ≡ numberAt s at
+unfolding numberAt
+read-first s at v h l e = rw (lt-leb (length s) at h, le-ltb (getD s at 0) 128 l, e) refl
+
+-- where no more bytes but one may follow
+pub read-end : (s : List ℕ) (k i w v : ℕ) → k ≤ 0 → w ≡ weight k → v < w → (v < 268435456) × (nextByte 0 s i 268435456 v ≡ nextByte k s i w v)
+read-end s zero i w v p e l = ((rw e at l), ap (λ (x : ℕ). nextByte 0 s i x v) (sym e))
+read-end s (suc k) i w v p e l = absurd (omega arith)
+
+module _ (s : List ℕ) (i w v : ℕ) where
+  pub read-fifth-large : (k : ℕ) → k ≤ 0 → i < length s → (getD s i 0 ≡ 0 → ⊥) → 15 < getD s i 0 → nextByte k s i w v ≡ NoNumber BadNumber
+  unfolding nextByte
+  read-fifth-large zero p h e l = rw (lt-leb (length s) i h, ne-eqb (getD s i 0) 0 e, lt-ltb 15 (getD s i 0) l) refl
+  read-fifth-large (suc k) p h e l = absurd (omega arith)
+
+  pub read-fifth : (k : ℕ) → k ≤ 0 → i < length s → (getD s i 0 ≡ 0 → ⊥) → getD s i 0 ≤ 15 → nextByte k s i w v ≡ Value (v + w * getD s i 0) (i + 1)
+  unfolding nextByte
+  read-fifth zero p h e l = rw (lt-leb (length s) i h, ne-eqb (getD s i 0) 0 e, le-ltb 15 (getD s i 0) l) refl
+  read-fifth (suc k) p h e l = absurd (omega arith)
+
+-- a first byte that is the whole number
+pub read-short : (s : List ℕ) (at v : ℕ) → at < length s → getD s at 0 ≡ v → v < 128 → numberAt s at ≡ Value v (at + 1)
+unfolding numberAt
+read-short s at v h e l = rw (lt-leb (length s) at h, e, lt-ltb v 128 l) refl
+
+pub read-none : (s : List ℕ) (at : ℕ) → length s ≤ at → numberAt s at ≡ NoNumber CutShort
+unfolding numberAt
+read-none s at h = rw (le-leb (length s) at h) refl
+
+-- ---- what was written is read
+head-is : (s : List ℕ) (i x : ℕ) (r : List ℕ) → drop i s ≡ x ∷ r → (i < length s) × (getD s i 0 ≡ x) × (drop (i + 1) s ≡ r)
+head-is [] zero x r e = let z : _≡_ {A = ℕ} 0 1 = cc in absurd (omega arith)
+head-is [] (suc i) x r e = let z : _≡_ {A = ℕ} 0 1 = cc in absurd (omega arith)
+head-is (y ∷ s) zero x r e = let f : y ≡ x = cc in let g : s ≡ r = cc in (omega arith, f, g)
+head-is (y ∷ s) (suc i) x r e =
+    let h = head-is s i x r e in
+    let k : suc i + 1 ≡ suc (i + 1) = omega arith in
+    ((let l = h .0 in omega arith), h .1, rw k (h .2))
+
+pub drop-past : (s l r : List ℕ) (i : ℕ) → drop i s ≡ l ++ r → drop (i + length l) s ≡ r
+drop-past s l r i e = sym (drop-drop (length l) i s) ∙ ap (drop (length l)) e ∙ drop-append-seam l r
+
+-- where the fields l are the last of a message
+pub ends-there : (s l : List ℕ) (at : ℕ) → drop at s ≡ l → 1 ≤ length l → length s ≡ at + length l
+ends-there s l at d h = let e = length-drop at s in let f = ap length d in omega arith
+
+-- a number of at most k + 1 groups whose last byte, if it is the fifth, is at most 15
+abbrev top : ℕ → ℕ
+top zero = 16
+top (suc k) = 128 * top k
+
+weighs : (a w x y : ℕ) → a + w * x + w * 128 * y ≡ a + w * (x + 128 * y)
+weighs a w x y =
+    let f : w * (x + 128 * y) ≡ w * x + w * (128 * y) = mul-add w x (128 * y) in
+    let g : w * 128 * y ≡ w * (128 * y) = mul-assoc w 128 y in
+    omega arith
+
+rest-reads : (k : ℕ) (s rest : List ℕ) (i w a v : ℕ) → drop i s ≡ groups k v ++ rest → 0 < v → v < top k → nextByte k s i w a ≡ Value (a + w * v) (i + length (groups k v))
+unfolding groups
+rest-reads zero s rest i w a v e p q =
+    let h = head-is s i v rest e in
+    let g = h .1 in
+    read-fifth s i w a 0 (omega arith) (h .0) (λ z. omega arith) (omega arith) ∙ ap (λ (n : ℕ). Value (a + w * n) (i + 1)) g
+rest-reads (suc k) s rest i w a v e p q = go (decLt v 128) (λ j w a e′ p′ q′. rest-reads k s rest j w a (v / 128) e′ p′ q′)
+  where
+    go : Dec (v < 128)
+        → ((j w a : ℕ) → drop j s ≡ groups k (v / 128) ++ rest → 0 < v / 128 → v / 128 < top k → nextByte k s j w a ≡ Value (a + w * (v / 128)) (j + length (groups k (v / 128))))
+        → nextByte (suc k) s i w a ≡ Value (a + w * v) (i + length (cond (ltb v 128) (v ∷ []) ((v % 128 + 128) ∷ groups k (v / 128))))
+    go (yes l) rec =
+        let e′ : drop i s ≡ v ∷ rest = rw (lt-ltb v 128 l) at e in
+        let h = head-is s i v rest e′ in
+        let g = h .1 in
+        rw (lt-ltb v 128 l) (read-last s (suc k) i w a (omega arith) (h .0) (λ z. omega arith) (omega arith) ∙ ap (λ (n : ℕ). Value (a + w * n) (i + 1)) g)
+    go (no l) rec =
+        let t : 128 ≤ v = omega arith in
+        let e′ : drop i s ≡ (v % 128 + 128) ∷ (groups k (v / 128) ++ rest) = rw (le-ltb v 128 t) at e in
+        let h = head-is s i (v % 128 + 128) (groups k (v / 128) ++ rest) e′ in
+        let g = h .1 in
+        let m : suc k - 1 ≡ k = omega arith in
+        let n : getD s i 0 - 128 ≡ v % 128 = omega arith in
+        let j : i + 1 + length (groups k (v / 128)) ≡ i + suc (length (groups k (v / 128))) = omega arith in
+        let x : v % 128 + 128 * (v / 128) ≡ v = omega arith in
+        rw (le-ltb v 128 t)
+        (read-next s (suc k) i w a (omega arith) (h .0) (λ z. omega arith) (omega arith)
+        ∙ ap₂ (λ (x y : ℕ). nextByte x s (i + 1) (w * 128) (a + w * y)) m n
+        ∙ rec (i + 1) (w * 128) (a + w * (v % 128)) (h .2) (omega arith) (omega arith)
+        ∙ ap₂ (λ (x y : ℕ). Value x y) (weighs a w (v % 128) (v / 128) ∙ ap (λ (n : ℕ). a + w * n) x) j)
+
+-- a number that stands at a position is read there, whatever follows
+pub number-reads : (s rest : List ℕ) (at v : ℕ) → v < 4294967296 → drop at s ≡ number v ++ rest → numberAt s at ≡ Value v (at + length (number v))
+unfolding number groups
+number-reads s rest at v m e = go (decLt v 128)
+  where
+    go : Dec (v < 128) → numberAt s at ≡ Value v (at + length (groups 4 v))
+    go (yes l) =
+        let e′ : drop at s ≡ v ∷ rest = rw (lt-ltb v 128 l) at e in
+        let h = head-is s at v rest e′ in
+        rw (lt-ltb v 128 l) (read-short s at v (h .0) (h .1) l)
+    go (no l) =
+        let t : 128 ≤ v = omega arith in
+        let e′ : drop at s ≡ (v % 128 + 128) ∷ (groups 3 (v / 128) ++ rest) = rw (le-ltb v 128 t) at e in
+        let h = head-is s at (v % 128 + 128) (groups 3 (v / 128) ++ rest) e′ in
+        let g = h .1 in
+        let j : at + 1 + length (groups 3 (v / 128)) ≡ at + suc (length (groups 3 (v / 128))) = omega arith in
+        let x : v % 128 + 128 * (v / 128) ≡ v = omega arith in
+        rw (le-ltb v 128 t)
+        (sym (read-first s at (v % 128) (h .0) (omega arith) (omega arith))
+        ∙ rest-reads 3 s rest (at + 1) 128 (v % 128) (v / 128) (h .2) (omega arith) (omega arith)
+        ∙ ap₂ (λ (a b : ℕ). Value a b) x j)
+
+-- the last number of a message
+pub number-reads-last : (s : List ℕ) (at v : ℕ) → v < 4294967296 → drop at s ≡ number v → numberAt s at ≡ Value v (at + length (number v))
+number-reads-last s at v m e = number-reads s [] at v m (e ∙ sym (append-nil (number v)))
+
+-- ---- nothing else is read to the same number
+no-value : {e : Refusal} {x b : ℕ} → NoNumber e ≡ Value x b → ⊥
+no-value {e} {x} {b} q = let z : _≡_ {A = ℕ} 0 1 = cc in omega arith
+
+value-is : {v b x c : ℕ} → Value v b ≡ Value x c → (v ≡ x) × (b ≡ c)
+value-is {v} {b} {x} {c} q = ((cc), (cc))
+
+-- the bytes from i on are the k + 1 groups at most of a number that raised the value from a to x, and end at b
+record Raised (k : ℕ) (s : List ℕ) (i w a x b : ℕ) : Type 0 where
+  v : ℕ
+  some : 0 < v
+  small : v < top k
+  value : x ≡ a + w * v
+  ends : b ≡ i + length (groups k v)
+  inside : b ≤ length s
+  stands : drop i s ≡ groups k v ++ drop b s
+
+last-stands : (s : List ℕ) (i x : ℕ) → i < length s → getD s i 0 ≡ x → drop i s ≡ x ∷ drop (i + 1) s
+last-stands s i x h e = drop-cons s i 0 h ∙ rw (e, add-one) refl
+
+-- a byte with its top bit set, in front of the groups of u
+groups-join : (k y u : ℕ) → 128 ≤ y → y < 256 → 0 < u → groups (suc k) (y - 128 + 128 * u) ≡ y ∷ groups k u
+unfolding groups
+groups-join k y u h m p =
+    let e : (y - 128 + 128 * u) / 128 ≡ u = omega arith in
+    let f : (y - 128 + 128 * u) % 128 + 128 ≡ y = omega arith in
+    rw (le-ltb (y - 128 + 128 * u) 128 (omega arith), e, f) refl
+
+top-some : (k : ℕ) → 1 ≤ top k
+top-some zero = omega arith
+top-some (suc k) = let h = top-some k in omega arith
+
+module _ (k : ℕ) (s : List ℕ) (i w a x b : ℕ) (h : i < length s) where
+  last-group : (getD s i 0 ≡ 0 → ⊥) → getD s i 0 < 128 → Value (a + w * getD s i 0) (i + 1) ≡ Value x b → Raised (suc k) s i w a x b
+  unfolding groups
+  last-group n l q =
+      let o = value-is q in
+      let p = o .1 in
+      let t = top-some k in
+      record {
+        v = getD s i 0;
+        some = omega arith;
+        small = omega arith;
+        value = sym (o .0);
+        ends = rw (lt-ltb (getD s i 0) 128 l) (sym p);
+        inside = omega arith;
+        stands = rw (lt-ltb (getD s i 0) 128 l) (last-stands s i (getD s i 0) h refl ∙ ap (λ (j : ℕ). getD s i 0 ∷ drop j s) p);
+      }
+
+  next-group : 128 ≤ getD s i 0 → getD s i 0 < 256 → Raised k s (i + 1) (w * 128) (a + w * (getD s i 0 - 128)) x b → Raised (suc k) s i w a x b
+  next-group l m r =
+      let u = r .v in
+      let p = r .some in
+      let v = getD s i 0 - 128 + 128 * u in
+      let f = groups-join k (getD s i 0) u l m p in
+      record {
+        v = v;
+        some = omega arith;
+        small = (let q = r .small in omega arith);
+        value = r .value ∙ weighs a w (getD s i 0 - 128) u;
+        ends = rw f (let q = r .ends in omega arith);
+        inside = r .inside;
+        stands = rw f (last-stands s i (getD s i 0) h refl ∙ ap (λ (t : List ℕ). getD s i 0 ∷ t) (r .stands));
+      }
+
+module _ (s : List ℕ) (bytes : Bytes s) where
+  raised : (k i w a x b : ℕ) → nextByte k s i w a ≡ Value x b → Raised k s i w a x b
+  unfolding nextByte groups
+  raised zero i w a x b =
+      by-test (λ (r : NumberRead). r ≡ Value x b → Raised zero s i w a x b) (leb (length s) i) (λ e q. absurd (no-value q)) (λ e.
+      by-test (λ (r : NumberRead). r ≡ Value x b → Raised zero s i w a x b) (eqb (getD s i 0) 0) (λ f q. absurd (no-value q)) (λ f.
+      by-test (λ (r : NumberRead). r ≡ Value x b → Raised zero s i w a x b) (ltb 15 (getD s i 0)) (λ g q. absurd (no-value q)) (λ g q.
+      let l = leb-false (length s) i e in
+      let n = eqb-false (getD s i 0) 0 f in
+      let m = ltb-false 15 (getD s i 0) g in
+      let o = value-is q in
+      record {
+        v = getD s i 0;
+        some = omega arith;
+        small = omega arith;
+        value = sym (o .0);
+        ends = sym (o .1);
+        inside = (let u = o .1 in omega arith);
+        stands = last-stands s i (getD s i 0) l refl ∙ ap (λ (j : ℕ). getD s i 0 ∷ drop j s) (o .1);
+      })))
+  raised (suc k) i w a x b =
+      by-test (λ (r : NumberRead). r ≡ Value x b → Raised (suc k) s i w a x b) (leb (length s) i) (λ e q. absurd (no-value q)) (λ e.
+      by-test (λ (r : NumberRead). r ≡ Value x b → Raised (suc k) s i w a x b) (eqb (getD s i 0) 0) (λ f q. absurd (no-value q)) (λ f.
+      by-test (λ (r : NumberRead). r ≡ Value x b → Raised (suc k) s i w a x b) (ltb (getD s i 0) 128)
+      (λ g q. last-group k s i w a x b (leb-false (length s) i e) (eqb-false (getD s i 0) 0 f) (ltb-true (getD s i 0) 128 g) q)
+      (λ g q. next-group k s i w a x b (leb-false (length s) i e) (ltb-false (getD s i 0) 128 g) (bytes i) (raised k (i + 1) (w * 128) (a + w * (getD s i 0 - 128)) x b q))))
+
+-- what a reader that found v at a position, up to b, had before it
+pub record Stands (s : List ℕ) (at v b : ℕ) : Type 0 where
+  pub small : v < 4294967296
+  pub ends : b ≡ at + length (number v)
+  pub starts : at < b
+  pub inside : b ≤ length s
+  pub stands : drop at s ≡ number v ++ drop b s
+  -- the bytes read are the number's own: nothing else reads to v
+  pub form : take (b - at) (drop at s) ≡ number v
+  -- and the bytes behind them were not looked at
+  pub alone : (t : List ℕ) → numberAt (take b s ++ t) at ≡ Value v b
+
+drop-take : (s : List ℕ) (at b : ℕ) → at ≤ b → b ≤ length s → drop at (take b s) ≡ take (b - at) (drop at s)
+drop-take s at b h k =
+    let e : b ≡ at + (b - at) = omega arith in
+    ap (λ (n : ℕ). drop at (take n s)) e ∙ ap (drop at) (take-add at (b - at) s) ∙ drop-at (take at s) (take (b - at) (drop at s)) at (length-take-le at s (omega arith))
+
+stands-so : (s : List ℕ) (at v b : ℕ) → v < 4294967296 → b ≡ at + length (number v) → b ≤ length s → drop at s ≡ number v ++ drop b s → Stands s at v b
+stands-so s at v b m e h d =
+    let p = size-some v in
+    let f : take (b - at) (drop at s) ≡ number v = ap (take (b - at)) d ∙ take-at (number v) (drop b s) (b - at) (omega arith) in
+    record {
+      small = m;
+      ends = e;
+      starts = omega arith;
+      inside = h;
+      stands = d;
+      form = f;
+      alone = λ t. number-reads (take b s ++ t) t at v m (drop-append-le at (take b s) t (let k = length-take-le b s h in omega arith) ∙ ap (λ (l : List ℕ). l ++ t) (drop-take s at b (omega arith) h ∙ f)) ∙ ap (λ (n : ℕ). Value v n) (sym e);
+    }
+
+module _ (s : List ℕ) (at v b : ℕ) (h : at < length s) where
+  short-stands : getD s at 0 < 128 → Value (getD s at 0) (at + 1) ≡ Value v b → Stands s at v b
+  short-stands l q =
+      let o = value-is q in
+      let x = o .0 in
+      let y = o .1 in
+      let z = size-last v (omega arith) in
+      stands-so s at v b (omega arith) (omega arith) (omega arith)
+      (last-stands s at v h x ∙ ap (λ (j : ℕ). v ∷ drop j s) y ∙ ap (λ (l : List ℕ). l ++ drop b s) (sym (number-last v (omega arith))))
+
+  long-stands : 128 ≤ getD s at 0 → getD s at 0 < 256 → Raised 3 s (at + 1) 128 (getD s at 0 - 128) v b → Stands s at v b
+  unfolding number
+  long-stands l m r =
+      let u = r .v in
+      let p = r .some in
+      let k = r .small in
+      let x = r .value in
+      let f : number v ≡ getD s at 0 ∷ groups 3 u = ap number x ∙ groups-join 3 (getD s at 0) u l m p in
+      let g : length (number v) ≡ suc (length (groups 3 u)) = ap length f in
+      stands-so s at v b (omega arith) (let y = r .ends in omega arith) (r .inside)
+      (last-stands s at (getD s at 0) h refl ∙ ap (λ (t : List ℕ). getD s at 0 ∷ t) (r .stands) ∙ ap (λ (t : List ℕ). t ++ drop b s) (sym f))
+
+pub number-form : (s : List ℕ) (at v b : ℕ) → Bytes s → numberAt s at ≡ Value v b → Stands s at v b
+unfolding numberAt
+number-form s at v b bytes =
+    by-test (λ (r : NumberRead). r ≡ Value v b → Stands s at v b) (leb (length s) at) (λ e q. absurd (no-value q)) (λ e.
+    by-test (λ (r : NumberRead). r ≡ Value v b → Stands s at v b) (ltb (getD s at 0) 128)
+    (λ g q. short-stands s at v b (leb-false (length s) at e) (ltb-true (getD s at 0) 128 g) q)
+    (λ g q. long-stands s at v b (leb-false (length s) at e) (ltb-false (getD s at 0) 128 g) (bytes at) (raised s bytes 3 (at + 1) 128 (getD s at 0 - 128) v b q)))
+
+-- the last number of a message
+pub number-form-last : (s : List ℕ) (at v b : ℕ) → Bytes s → numberAt s at ≡ Value v b → length s ≤ b → drop at s ≡ number v
+number-form-last s at v b bytes e h = number-form s at v b bytes e .stands ∙ ap (λ (l : List ℕ). number v ++ l) (drop-of-length-le s h) ∙ append-nil (number v)
+
+-- a number ends by the end of the message, whatever its elements
+next-inside : (k : ℕ) (s : List ℕ) (i w a x b : ℕ) → nextByte k s i w a ≡ Value x b → (i < b) × (b ≤ length s)
+unfolding nextByte
+next-inside zero s i w a x b =
+    by-test (λ (r : NumberRead). r ≡ Value x b → (i < b) × (b ≤ length s)) (leb (length s) i) (λ e q. absurd (no-value q)) (λ e.
+    by-test (λ (r : NumberRead). r ≡ Value x b → (i < b) × (b ≤ length s)) (eqb (getD s i 0) 0) (λ f q. absurd (no-value q)) (λ f.
+    by-test (λ (r : NumberRead). r ≡ Value x b → (i < b) × (b ≤ length s)) (ltb 15 (getD s i 0)) (λ g q. absurd (no-value q)) (λ g q.
+    let l = leb-false (length s) i e in let o = value-is q .1 in (omega arith, omega arith))))
+next-inside (suc k) s i w a x b =
+    by-test (λ (r : NumberRead). r ≡ Value x b → (i < b) × (b ≤ length s)) (leb (length s) i) (λ e q. absurd (no-value q)) (λ e.
+    by-test (λ (r : NumberRead). r ≡ Value x b → (i < b) × (b ≤ length s)) (eqb (getD s i 0) 0) (λ f q. absurd (no-value q)) (λ f.
+    by-test (λ (r : NumberRead). r ≡ Value x b → (i < b) × (b ≤ length s)) (ltb (getD s i 0) 128)
+    (λ g q. let l = leb-false (length s) i e in let o = value-is q .1 in (omega arith, omega arith))
+    (λ g q. let h = next-inside k s (i + 1) (w * 128) (a + w * (getD s i 0 - 128)) x b q in (omega arith, h .1))))
+
+pub number-inside : (s : List ℕ) (at v b : ℕ) → numberAt s at ≡ Value v b → (at < b) × (b ≤ length s)
+unfolding numberAt
+number-inside s at v b =
+    by-test (λ (r : NumberRead). r ≡ Value v b → (at < b) × (b ≤ length s)) (leb (length s) at) (λ e q. absurd (no-value q)) (λ e.
+    by-test (λ (r : NumberRead). r ≡ Value v b → (at < b) × (b ≤ length s)) (ltb (getD s at 0) 128)
+    (λ g q. let l = leb-false (length s) at e in let o = value-is q .1 in (omega arith, omega arith))
+    (λ g q. let h = next-inside 3 s (at + 1) 128 (getD s at 0 - 128) v b q in (omega arith, h .1)))
+
+-- ---- where the message ends inside the number
+drop-end : (s : List ℕ) (i : ℕ) → drop i s ≡ [] → length s ≤ i
+drop-end s i d = let e = length-drop i s in let f : length (drop i s) ≡ 0 = ap length d in omega arith
+
+rest-cut : (k : ℕ) (s : List ℕ) (i w a v j : ℕ) → drop i s ≡ take j (groups k v) → j < length (groups k v) → nextByte k s i w a ≡ NoNumber CutShort
+unfolding groups
+rest-cut k s i w a v zero d h = read-cut s k i w a (drop-end s i d)
+rest-cut zero s i w a v (suc j) d h = absurd (omega arith)
+rest-cut (suc k) s i w a v (suc j) d h = go (decLt v 128) (rest-cut k s (i + 1) (w * 128) (a + w * (v % 128)) (v / 128) j)
+  where
+    go : Dec (v < 128) → (drop (i + 1) s ≡ take j (groups k (v / 128)) → j < length (groups k (v / 128)) → nextByte k s (i + 1) (w * 128) (a + w * (v % 128)) ≡ NoNumber CutShort)
+        → nextByte (suc k) s i w a ≡ NoNumber CutShort
+    go (yes l) rec = let h′ : suc j < 1 = rw (lt-ltb v 128 l) at h in absurd (omega arith)
+    go (no l) rec =
+        let t : 128 ≤ v = omega arith in
+        let d′ : drop i s ≡ (v % 128 + 128) ∷ take j (groups k (v / 128)) = rw (le-ltb v 128 t) at d in
+        let h′ : suc j < suc (length (groups k (v / 128))) = rw (le-ltb v 128 t) at h in
+        let f = head-is s i (v % 128 + 128) (take j (groups k (v / 128))) d′ in
+        let g = f .1 in
+        let m : suc k - 1 ≡ k = omega arith in
+        let n : getD s i 0 - 128 ≡ v % 128 = omega arith in
+        read-next s (suc k) i w a (omega arith) (f .0) (λ z. omega arith) (omega arith)
+        ∙ ap₂ (λ (x y : ℕ). nextByte x s (i + 1) (w * 128) (a + w * y)) m n
+        ∙ rec (f .2) (omega arith)
+
+-- the first j bytes of a number, fewer than all, and then the end: 4
+pub number-cut : (s : List ℕ) (at v j : ℕ) → drop at s ≡ take j (number v) → j < length (number v) → numberAt s at ≡ NoNumber CutShort
+unfolding number groups
+number-cut s at v zero d h = read-none s at (drop-end s at d)
+number-cut s at v (suc j) d h = go (decLt v 128)
+  where
+    go : Dec (v < 128) → numberAt s at ≡ NoNumber CutShort
+    go (yes l) = let h′ : suc j < 1 = rw (lt-ltb v 128 l) at h in absurd (omega arith)
+    go (no l) =
+        let t : 128 ≤ v = omega arith in
+        let d′ : drop at s ≡ (v % 128 + 128) ∷ take j (groups 3 (v / 128)) = rw (le-ltb v 128 t) at d in
+        let h′ : suc j < suc (length (groups 3 (v / 128))) = rw (le-ltb v 128 t) at h in
+        let f = head-is s at (v % 128 + 128) (take j (groups 3 (v / 128))) d′ in
+        let g = f .1 in
+        sym (read-first s at (v % 128) (f .0) (omega arith) (omega arith)) ∙ rest-cut 3 s (at + 1) 128 (v % 128) (v / 128) j (f .2) (omega arith)

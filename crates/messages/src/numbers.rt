@@ -1,0 +1,107 @@
+// Numbers of messages: written and read as groups of seven bits, the lowest first.
+ghost use mathlib.Core.Path.{_≡_};
+ghost use Prim.Native.Nat.{_+_, _≤_, _<_};
+ghost use lib.ListN.{length};
+ghost use lib.Seq.{sets};
+ghost use Rattle.messages.specs.Numbers.{number, nextByte, numberAt};
+use strings::Refusal;
+
+// What reading a number at a position gave: its value and the position behind it, or why not.
+pub enum NumberRead {
+    Value(u32, usize),
+    NoNumber(Refusal),
+}
+
+fn wide(x: u8) -> u32
+    ensures { λ r. ⌜ r ≡ x ⌝ }
+{
+    x as u32
+}
+
+// The fifth byte of a number, at index i, after four that gave v: it is the last.
+fn read_fifth(s: &[u8], i: usize, v: u32) -> NumberRead
+    requires { ⌜ v < 268435456 ⌝ }
+    ensures { λ r. ⌜ r ≡ nextByte 0 (now (s .entry)) i 268435456 v ⌝ }
+{
+    if s.len() <= i {
+        return NumberRead::NoNumber(Refusal::CutShort);
+    }
+    let last = s[i];
+    if last == 0 {
+        return NumberRead::NoNumber(Refusal::BadNumber);
+    }
+    if 15 < last {
+        return NumberRead::NoNumber(Refusal::BadNumber);
+    }
+    NumberRead::Value(v + 268435456 * wide(last), i + 1)
+}
+
+// The number at position `at`, byte by byte: v so far, the next byte counts w-fold, and k more may follow it.
+pub fn read_number(s: &[u8], at: usize) -> NumberRead
+    ensures { λ r. ⌜ r ≡ numberAt (now (s .entry)) at ⌝ }
+{
+    if s.len() <= at {
+        return NumberRead::NoNumber(Refusal::CutShort);
+    }
+    let first = s[at];
+    if first < 128 {
+        return NumberRead::Value(wide(first), at + 1);
+    }
+    let mut v = wide(first - 128);
+    let mut w: u32 = 128;
+    let mut i = at + 1;
+    let mut k: u32 = 3;
+    while 0 < k {
+        if s.len() <= i {
+            return NumberRead::NoNumber(Refusal::CutShort);
+        }
+        let b = s[i];
+        if b == 0 {
+            return NumberRead::NoNumber(Refusal::BadNumber);
+        }
+        if b < 128 {
+            return NumberRead::Value(v + w * wide(b), i + 1);
+        }
+        v = v + w * wide(b - 128);
+        w = w * 128;
+        i += 1;
+        k -= 1;
+    }
+    read_fifth(s, i, v)
+}
+
+// How many bytes a number takes.
+pub fn number_size(v: u32) -> usize
+    ensures { λ r. ⌜ r ≡ length (number v) ⌝ }
+{
+    if v < 128 {
+        return 1;
+    }
+    if v < 16384 {
+        return 2;
+    }
+    if v < 2097152 {
+        return 3;
+    }
+    if v < 268435456 {
+        return 4;
+    }
+    5
+}
+
+// A number is written from index `at` on; the answer is the index behind it. The room that it requires was tested for the whole message, so
+// that a buffer that is too short is left alone.
+pub fn put_number(buf: &mut [u8], at: usize, v: u32) -> usize
+    requires { ⌜ at + length (number v) ≤ length (now buf) ⌝ }
+    ensures { λ r. ⌜ (r ≡ at + length (number v)) × (now (buf .exit) ≡ sets (now (buf .entry)) at (number v)) ⌝ }
+{
+    let mut i = at;
+    let mut w = v;
+    while 128 <= w {
+        buf[i] = (w % 128 + 128) as u8;
+        w = w / 128;
+        i += 1;
+    }
+    buf[i] = w as u8;
+    i + 1
+}

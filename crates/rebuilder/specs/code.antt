@@ -1,2 +1,0 @@
--- What internal functions give and require: the terms of their contracts.
-pub mod RebuilderParts

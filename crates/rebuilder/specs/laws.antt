@@ -1,3 +1,0 @@
--- Laws of the definitions, for proofs.
-pub mod RebuilderCodeLaws
-pub mod RebuilderCallLaws
