@@ -1,3 +1,4 @@
 -- Worked examples, computed on the definitions.
+pub mod Marked
 pub mod Samples
 pub mod Demo

@@ -5,4 +5,3 @@ pub mod Questions
 pub mod Answers
 pub mod Writing
 pub mod laws
-pub mod examples

@@ -1,5 +1,7 @@
 use mathlib.Core.Path.{_≡_}
-use Prim.Native.Nat.{ℕ, _-_, _*_, _%_, _^_}
+use mathlib.Core.Bool.{Bool}
+use Prim.Native.Nat.{ℕ, _-_, _*_, _%_, _^_, _<_}
+use lib.Dec.{eqb}
 use native.Mathlib.Omega.{arith}
 use lib.Pow.{pow-pos}
 use borrow.Author.Needs.{needs}
@@ -32,15 +34,23 @@ cast-result c = search needs
 shl-result : tie.Need-shl-result
 shl-result c = search needs
 
--- the power of two that the code divides by
+-- the power of two that the code divides by: it is not 0, and a remainder by it is one by the power
 divisor : (bits : ℕ) → (bits % 8 ≡ 0 → ⊥) → (1 * 2 ^ (8 - bits % 8)) % 256 ≡ 2 ^ (8 - bits % 8)
 divisor bits h = one-shl (8 - bits % 8) (omega arith)
 
+divisor-some : (bits : ℕ) → (bits % 8 ≡ 0 → ⊥) → 0 < (1 * 2 ^ (8 - bits % 8)) % 256
+divisor-some bits h = rw (divisor bits h) (pow-pos (8 - bits % 8))
+
+divided : (bits b : ℕ) (r : Bool) → (bits % 8 ≡ 0 → ⊥) → eqb (b % 2 ^ (8 - bits % 8)) 0 ≡ r → eqb (b % ((1 * 2 ^ (8 - bits % 8)) % 256)) 0 ≡ r
+divided bits b r h e = rw (divisor bits h) e
+
 rem-result : tie.Need-rem-result
-rem-result c = rw (divisor (c .before .before .before .before .args .bits) (c .before .if3 .left)) (pow-pos (8 - (c .before .before .before .before .args .bits) % 8))
+rem-result c = divisor-some (c .before .before .before .before .args .bits) (c .before .if3 .left)
 
 returns-4 : tie.Need-returns-4
-returns-4 c = rw (divisor (c .before .before .before .before .args .bits) (c .before .if3 .left)) (rule-odd _ _ (c .before .before .before .if1 .left) (c .before .before .if2 .left) (c .before .if3 .left))
+returns-4 c =
+    divided (c .before .before .before .before .args .bits) _ _ (c .before .if3 .left)
+    (rule-odd _ _ (c .before .before .before .if1 .left) (c .before .before .if2 .left) (c .before .if3 .left))
 
 pub keeps-string-rule-spec : {M : Type 1} → statement M
 keeps-string-rule-spec =

@@ -1,2 +1,0 @@
--- Worked examples, computed on the definitions.
-pub mod Samples
