@@ -28,16 +28,16 @@ extern "C" {
 #define LO_REFUSAL(result) ((unsigned)((result) & 15))
 
 /* Refusals */
-#define LO_SETTING 1          /* a setting handed in is outside its limits */
+#define LO_BAD_SETTING 1          /* a setting handed in is outside its limits */
 #define LO_BAD_STRING 2       /* a string breaks the string rule, or has another bit count than at
                                  opening */
 #define LO_OUT_OF_TURN 3      /* finished; answers spent; an opening wanted, or not wanted; or the
                                  state is unsound or of another length */
-#define LO_MESSAGE_ENDS 4     /* the message ends inside its kind, a field or its bits */
+#define LO_TRUNCATED 4     /* the message ends inside its kind, a field or its bits */
 #define LO_BAD_NUMBER 5       /* a number with a zero last byte after another byte, or a fifth byte
                                  above 0x0f */
-#define LO_WRONG_KIND 6       /* the kind is unknown, or not the one that a rebuilder awaits */
-#define LO_BYTES_FOLLOW 7     /* bytes follow the last field or its bits */
+#define LO_BAD_KIND 6       /* the kind is unknown, or not the one that a rebuilder awaits */
+#define LO_TRAILING_BYTES 7     /* bytes follow the last field or its bits */
 #define LO_OUT_OF_RANGE 8     /* a value is outside its range */
 #define LO_BUFFER_TOO_SHORT 9 /* a lent buffer or sheet is too short */
 

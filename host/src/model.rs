@@ -277,7 +277,7 @@ impl<'a> Reader<'a> {
     fn number(&mut self) -> Result<u32, Refusal> {
         let mut value = 0;
         for place in 0..5 {
-            let byte = *self.message.get(self.at).ok_or(Refusal::MessageEnds)?;
+            let byte = *self.message.get(self.at).ok_or(Refusal::Truncated)?;
             if place > 0 && byte == 0 || place == 4 && byte > 0x0f {
                 return Err(Refusal::BadNumber);
             }
@@ -293,7 +293,7 @@ impl<'a> Reader<'a> {
     /// The packed bytes of `len` bits.
     fn bits(&mut self, len: usize) -> Result<&'a [u8], Refusal> {
         let end = self.at + len.div_ceil(8);
-        let bytes = self.message.get(self.at..end).ok_or(Refusal::MessageEnds)?;
+        let bytes = self.message.get(self.at..end).ok_or(Refusal::Truncated)?;
         self.at = end;
         Ok(bytes)
     }
@@ -302,7 +302,7 @@ impl<'a> Reader<'a> {
         if self.at == self.message.len() {
             Ok(())
         } else {
-            Err(Refusal::BytesFollow)
+            Err(Refusal::TrailingBytes)
         }
     }
 }
@@ -446,7 +446,7 @@ fn holder_answer(
     let mut reader = Reader::new(message);
     let kind = reader.number()?;
     if kind > BITS {
-        return Err(Refusal::WrongKind);
+        return Err(Refusal::BadKind);
     }
     if (kind == OPEN) == (state.opened == 1) {
         return Err(Refusal::OutOfTurn);
@@ -787,7 +787,7 @@ impl RebuilderState {
         };
         let mut reader = Reader::new(message);
         if reader.number()? != awaited {
-            return Err(Refusal::WrongKind);
+            return Err(Refusal::BadKind);
         }
         let (answer, in_range) = match awaited {
             OPEN => {
@@ -953,7 +953,7 @@ fn rebuilder_start(
     question: &mut [u8],
 ) -> Result<usize, Refusal> {
     if !settings.kept() {
-        return Err(Refusal::Setting);
+        return Err(Refusal::BadSetting);
     }
     if !legal(y, bits) {
         return Err(Refusal::BadString);
@@ -1047,7 +1047,7 @@ impl Ends for Model {
 
     fn hash(s: &[u8], bits: usize, h: u32, key: u32) -> u64 {
         pack(if !(8..=32).contains(&h) || key == 0 {
-            Err(Refusal::Setting)
+            Err(Refusal::BadSetting)
         } else if !legal(s, bits) {
             Err(Refusal::BadString)
         } else {
@@ -1091,7 +1091,7 @@ impl Ends for Model {
         a: &[u8],
     ) -> u64 {
         if !(8..=64).contains(&m) || !(1..=8).contains(&k) {
-            return pack(Err(Refusal::Setting));
+            return pack(Err(Refusal::BadSetting));
         }
         let m = m as usize;
         if !legal(y, bits) || !legal(a, m) {

@@ -8,19 +8,19 @@ use std::fmt;
 #[repr(u8)]
 pub enum Refusal {
     /// 1: a setting handed in is outside its limits.
-    Setting = 1,
+    BadSetting = 1,
     /// 2: a lent string breaks the string rule, or has another bit count than at opening.
     BadString = 2,
     /// 3: the call is out of turn, or the state is unsound.
     OutOfTurn = 3,
     /// 4: the message ends inside its kind, a field or its bits.
-    MessageEnds = 4,
+    Truncated = 4,
     /// 5: a number in the message is not in its shortest form, or is 2^32 or more.
     BadNumber = 5,
     /// 6: the message's kind is unknown, or not the one awaited.
-    WrongKind = 6,
+    BadKind = 6,
     /// 7: bytes follow the message's last field or its bits.
-    BytesFollow = 7,
+    TrailingBytes = 7,
     /// 8: a value is outside its range.
     OutOfRange = 8,
     /// 9: a lent buffer or sheet is too short.
@@ -30,13 +30,13 @@ pub enum Refusal {
 impl Refusal {
     /// All refusals, in the order of their numbers.
     pub const ALL: [Refusal; 9] = [
-        Refusal::Setting,
+        Refusal::BadSetting,
         Refusal::BadString,
         Refusal::OutOfTurn,
-        Refusal::MessageEnds,
+        Refusal::Truncated,
         Refusal::BadNumber,
-        Refusal::WrongKind,
-        Refusal::BytesFollow,
+        Refusal::BadKind,
+        Refusal::TrailingBytes,
         Refusal::OutOfRange,
         Refusal::BufferTooShort,
     ];
@@ -57,17 +57,17 @@ impl Refusal {
 impl fmt::Display for Refusal {
     fn fmt(&self, f: &mut fmt::Formatter<'_>) -> fmt::Result {
         let reason = match self {
-            Refusal::Setting => "a setting is outside its limits",
+            Refusal::BadSetting => "a setting is outside its limits",
             Refusal::BadString => {
                 "a string breaks the string rule or has another bit count than at opening"
             }
             Refusal::OutOfTurn => "the call is out of turn or the state is unsound",
-            Refusal::MessageEnds => "the message ends inside its kind, a field or its bits",
+            Refusal::Truncated => "the message ends inside its kind, a field or its bits",
             Refusal::BadNumber => {
                 "a number in the message is not in its shortest form or too large"
             }
-            Refusal::WrongKind => "the message's kind is unknown or not the one awaited",
-            Refusal::BytesFollow => "bytes follow the end of the message",
+            Refusal::BadKind => "the message's kind is unknown or not the one awaited",
+            Refusal::TrailingBytes => "bytes follow the end of the message",
             Refusal::OutOfRange => "a value is outside its range",
             Refusal::BufferTooShort => "a buffer or the sheet is too short",
         };

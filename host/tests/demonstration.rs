@@ -1,5 +1,5 @@
 //! The demonstration program on the stored runs in data/runs: what it prints for NAME.in is NAME.out.
-//! The stored output is what document 01 wants, worked out by docs/runs.py.
+//! The stored output is what document 01 wants, worked out by tools/runs.py.
 #![cfg(not(feature = "model-only"))]
 
 use std::env;

@@ -99,9 +99,9 @@ fn numbers<E: Ends>() {
     assert_eq!(open(&[0x00, 0x7f]), Ok(127), "M11");
     assert_eq!(open(&[0x00, 0x80, 0x01]), Ok(128), "M11");
     assert_eq!(open(&[0x00, 0x80, 0x00]), Err(Refusal::BadNumber), "M12");
-    assert_eq!(open(&[0x00, 0x80]), Err(Refusal::MessageEnds), "M12");
+    assert_eq!(open(&[0x00, 0x80]), Err(Refusal::Truncated), "M12");
     assert_eq!(open(&[0x80, 0x00]), Err(Refusal::BadNumber), "M12");
-    assert_eq!(open(&[0x80]), Err(Refusal::MessageEnds), "M12");
+    assert_eq!(open(&[0x80]), Err(Refusal::Truncated), "M12");
     assert_eq!(open(&[0x00, 0x80, 0x80, 0x04]), Ok(65_536));
     assert_eq!(open(&[0x00, 0x81, 0x80, 0x04]), Err(Refusal::OutOfRange));
     assert_eq!(
@@ -116,7 +116,7 @@ fn numbers<E: Ends>() {
         open(&[0x00, 0x80, 0x80, 0x80, 0x80, 0x00]),
         Err(Refusal::BadNumber)
     );
-    assert_eq!(open(&[]), Err(Refusal::MessageEnds));
+    assert_eq!(open(&[]), Err(Refusal::Truncated));
 }
 
 /// m = h = 8: p 63 goes as bits, p 64 gets anchors at 28, 36, 20 and then goes as bits.

@@ -70,8 +70,8 @@ fn codes() -> Result<(), Refusal> {
     let s: BitString = "1011".parse()?;
     assert_eq!(syndrome(&s)?, 3);
     assert_eq!(hash(&s, 8, 1)?, 0xab);
-    assert_eq!(hash(&s, 7, 1), Err(Refusal::Setting));
-    assert_eq!(hash(&s, 8, 0), Err(Refusal::Setting));
+    assert_eq!(hash(&s, 7, 1), Err(Refusal::BadSetting));
+    assert_eq!(hash(&s, 8, 0), Err(Refusal::BadSetting));
     assert_eq!(repair(&s, 3, 0)?, Some("101".parse()?));
     assert_eq!(repair(&s, 3, 3)?, None);
     assert_eq!(repair(&s, 3, 4), Err(Refusal::OutOfRange));
@@ -92,9 +92,9 @@ fn codes() -> Result<(), Refusal> {
     );
     assert_eq!(
         find_anchor(&y, 0..10, 10, 1, 9, &anchor),
-        Err(Refusal::Setting)
+        Err(Refusal::BadSetting)
     );
-    assert_eq!(find_anchor(&y, 0..10, 10, 1, 1, &s), Err(Refusal::Setting));
+    assert_eq!(find_anchor(&y, 0..10, 10, 1, 1, &s), Err(Refusal::BadSetting));
     Ok(())
 }
 
@@ -152,7 +152,7 @@ fn settings() {
     ] {
         assert!(!wrong.within_limits());
         let start = Rebuilder::start(wrong, BitString::default());
-        assert_eq!(start.err(), Some(Refusal::Setting));
+        assert_eq!(start.err(), Some(Refusal::BadSetting));
     }
 }
 
@@ -187,8 +187,8 @@ fn a_refused_answer_changes_nothing() {
     let mut rebuilder = Rebuilder::start(Settings::house(), x.clone()).unwrap();
     assert_eq!(holder.answer(&[1, 0, 1]), Err(Refusal::OutOfTurn));
     let before = rebuilder.clone();
-    assert_eq!(rebuilder.take(&[]), Err(Refusal::MessageEnds));
-    assert_eq!(rebuilder.take(&[1, 0]), Err(Refusal::WrongKind));
+    assert_eq!(rebuilder.take(&[]), Err(Refusal::Truncated));
+    assert_eq!(rebuilder.take(&[1, 0]), Err(Refusal::BadKind));
     assert!(rebuilder == before);
     let answer = holder.answer(rebuilder.question().unwrap()).unwrap();
     rebuilder.take(&answer).unwrap();

@@ -7,7 +7,7 @@ use lib.Dec.{leb, eqb}
 use Rattle.strings.specs.Bits.{atFront}
 use Rattle.strings.specs.StringRule.{stringRule}
 use Rattle.strings.specs.Refusals.{refusalNumber}
-use Rattle.strings.specs.declared.Refusal.the-variants.{BadSetting, BadString, OutOfTurn, NoRoom}
+use Rattle.strings.specs.declared.Refusal.the-variants.{BadSetting, BadString, OutOfTurn, BufferTooShort}
 use Rattle.codes.specs.Entries.{refusal, value}
 use Rattle.strings.specs.declared.settings.Settings.{Settings}
 use Rattle.strings.specs.SettingLimits.{withinLimits}
@@ -51,7 +51,7 @@ unfoldable pub startOnBytes : Settings → (y : List ℕ) (bits : ℕ) (stateRoo
 startOnBytes S y bits stateRoom room =
     unlessStarted (withinLimits S) BadSetting (
     unlessStarted (stringRule y bits) BadString (
-    unlessStarted (leb 564 stateRoom) NoRoom (
+    unlessStarted (leb 564 stateRoom) BufferTooShort (
     rebuilderStart S y bits room)))
 
 pub record StartLeft : Type 0 where

@@ -86,7 +86,7 @@ pub fn repair(s: &[u8], bits: usize, n: usize, a: usize, out: &mut [u8]) -> Repa
         return RepairAnswer::Refused(Refusal::OutOfRange);
     }
     if out.len() < (n + 7) / 8 {
-        return RepairAnswer::Refused(Refusal::NoRoom);
+        return RepairAnswer::Refused(Refusal::BufferTooShort);
     }
     let found = crate::places::find_repair(s, 0, bits, n, a);
     match found {

@@ -81,7 +81,7 @@ fn print_rows(sheet: &[u8; 196620], used: u32) {
 // finish has at most 65,536 bits and counts the opening among its answers.
 fn print_last(string: &[u8; 8192], st: Rebuilder) {
     if 65536 < st.n {
-        return print_refusal(Refusal::NoRoom);
+        return print_refusal(Refusal::BufferTooShort);
     }
     if st.answered == 0 {
         return print_refusal(Refusal::OutOfTurn);

@@ -7,7 +7,7 @@ use lib.Dec.{leb, ltb, eqb}
 use Rattle.strings.specs.Bits.{range}
 use Rattle.strings.specs.StringRule.{stringRule}
 use Rattle.strings.specs.declared.Refusal.{Refusal}
-use Rattle.strings.specs.declared.Refusal.the-variants.{BadString, OutOfTurn, NoRoom}
+use Rattle.strings.specs.declared.Refusal.the-variants.{BadString, OutOfTurn, BufferTooShort}
 use Rattle.messages.specs.declared.Kind.{Kind}
 use Rattle.messages.specs.declared.Kind.the-variants.{Open, Hash, Syndrome, Bits}
 use Rattle.messages.specs.declared.KindRead.{KindRead}
@@ -56,7 +56,7 @@ afterAnswer st bits (AskBits x p) = record { opened = st .opened; bits = st .bit
 
 -- a message for which there is room
 unfoldable pub sends : ℕ → Holder → List ℕ → Heard
-sends room next m = unlessHeard (leb (length m) room) NoRoom (replies next m)
+sends room next m = unlessHeard (leb (length m) room) BufferTooShort (replies next m)
 
 abbrev pub answersTo : Holder → List ℕ → (bits room : ℕ) → QuestionRead → Heard
 answersTo st x bits room (NoQuestion e) = declines e

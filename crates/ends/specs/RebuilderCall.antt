@@ -9,7 +9,7 @@ use lib.Dec.{leb, ltb, eqb}
 use Rattle.strings.specs.Bits.{range, bytesFor, writeBits, cleared}
 use Rattle.strings.specs.StringRule.{stringRule}
 use Rattle.strings.specs.declared.Refusal.{Refusal}
-use Rattle.strings.specs.declared.Refusal.the-variants.{BadSetting, BadString, OutOfTurn, NoRoom}
+use Rattle.strings.specs.declared.Refusal.the-variants.{BadSetting, BadString, OutOfTurn, BufferTooShort}
 use Rattle.messages.specs.declared.Question.{Question}
 use Rattle.messages.specs.declared.Question.the-variants.{AskOpen, AskHash, AskSyndrome, AskBits}
 use Rattle.messages.specs.declared.AnswerRead.{AnswerRead}
@@ -56,7 +56,7 @@ unfoldable pub rebuilderStart : Settings → (y : List ℕ) (bits room : ℕ) �
 rebuilderStart S y bits room =
     unlessStarted (withinLimits S) BadSetting (
     unlessStarted (stringRule y bits) BadString (
-    unlessStarted (leb 8 room) NoRoom (
+    unlessStarted (leb 8 room) BufferTooShort (
     starts (freshRebuilder S bits) (questionBytes (AskOpen (S .h) (S .key))))))
 
 -- ---- what an answer makes of state, string and sheet
@@ -219,7 +219,7 @@ bitsKnown st a = cond (eqb (st .phase) 0) (theSize a) (st .n)
 
 abbrev pub given : Rebuilder → (y msg : List ℕ) → Rooms → Answer → Taken
 given st y msg rooms a =
-    unlessTaken (roomFor st (bitsKnown st a) rooms) NoRoom (
+    unlessTaken (roomFor st (bitsKnown st a) rooms) BufferTooShort (
     takes (stepOf st y (length msg) a) (writtenQuestion (planned (stepOf st y (length msg) a .state))))
 
 -- an answer that was read, to a question for len bits

@@ -63,7 +63,7 @@ fn reply_written(st: Holder, next: Holder, w: WriteResult) -> HolderOut
     ensures { λ r. ⌜ r ≡ written st next w ⌝ }
 {
     match w {
-        WriteResult::TooShort => refuse(st, Refusal::NoRoom),
+        WriteResult::TooShort => refuse(st, Refusal::BufferTooShort),
         WriteResult::Written(size) => HolderOut {
             answer: HolderAnswer::Replied(size),
             state: next,

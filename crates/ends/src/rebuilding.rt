@@ -178,7 +178,7 @@ fn hear(
     let kind = question_kind(q);
     let read = messages::read_answer(kind, len, st.settings.h, msg);
     if !has_answer_room(st, read, string.len(), rows, question.len()) {
-        return refuse(st, Refusal::NoRoom);
+        return refuse(st, Refusal::BufferTooShort);
     }
     take(st, y, msg, len, read, string, question)
 }
@@ -247,10 +247,10 @@ pub fn rebuilder_start(settings: Settings, y: &[u8], bits: usize, question: &mut
         return not_begun(Refusal::BadString);
     }
     if question.len() < 8 {
-        return not_begun(Refusal::NoRoom);
+        return not_begun(Refusal::BufferTooShort);
     }
     match messages::write_question(Question::AskOpen(settings.h, settings.key), question) {
-        WriteResult::TooShort => not_begun(Refusal::NoRoom),
+        WriteResult::TooShort => not_begun(Refusal::BufferTooShort),
         WriteResult::Written(size) => StartOut {
             answer: StartAnswer::Begun(size),
             state: state::fresh_rebuilder(settings, bits as u32),

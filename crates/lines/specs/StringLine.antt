@@ -8,7 +8,7 @@ use Rattle.strings.specs.Bits.{bytesFor, pack, atFront}
 use Rattle.lines.specs.declared.FieldFound.{FieldFound}
 use Rattle.lines.specs.declared.FieldFound.the-variants.{At, Missing}
 use Rattle.lines.specs.declared.StringRead.{StringRead}
-use Rattle.lines.specs.declared.StringRead.the-variants.{Bits, NotBits, NoRoom}
+use Rattle.lines.specs.declared.StringRead.the-variants.{Bits, NotBits, BufferTooShort}
 use Rattle.lines.specs.Fields.{field, bytesBetween}
 
 -- the bytes 0 (48) and 1 (49)
@@ -34,7 +34,7 @@ stringInto line buf =
     cond (leb (length line) 65536 && allBits line)
     (cond (leb (bytesFor (length line)) (length buf))
     (leaves (Bits (length line)) (atFront (pack (bitsOf line)) buf))
-    (leaves NoRoom buf))
+    (leaves BufferTooShort buf))
     (leaves NotBits buf)
 
 abbrev pub stringAt : List ℕ → FieldFound → List ℕ → Outcome

@@ -33,7 +33,7 @@ pub enum SettingsRead {
 pub enum StringRead {
     Bits(usize),
     NotBits,
-    NoRoom,
+    BufferTooShort,
 }
 
 // The index of the first separator from index `from` on, or the length.
@@ -212,7 +212,7 @@ fn parse_bits(s: &[u8], out: &mut [u8]) -> StringRead
     }
     let size = (n + 7) / 8;
     if out.len() < size {
-        return StringRead::NoRoom;
+        return StringRead::BufferTooShort;
     }
     strings::clear_bytes(out, 0, size);
     write_line(s, out);

@@ -8,7 +8,7 @@ use lib.Dec.{ltb, leb, eqb}
 use Rattle.strings.specs.Bits.{range, bytesFor, pack}
 use Rattle.strings.specs.StringRule.{stringRule}
 use Rattle.strings.specs.declared.Refusal.{Refusal}
-use Rattle.strings.specs.declared.Refusal.the-variants.{CutShort, BadKind, LeftOver, OutOfRange}
+use Rattle.strings.specs.declared.Refusal.the-variants.{Truncated, BadKind, TrailingBytes, OutOfRange}
 use Rattle.messages.specs.declared.Kind.{Kind}
 use Rattle.messages.specs.declared.Kind.the-variants.{Open, Hash, Syndrome, Bits}
 use Rattle.messages.specs.declared.numbers.NumberRead.{NumberRead}
@@ -43,14 +43,14 @@ noAnswerIf false e a = a
 unfoldable pub sizeAt : List ℕ → ℕ → AnswerRead
 sizeAt s at =
     thenAnswer (numberAt s at) (λ n end.
-    noAnswerIf (ltb end (length s)) LeftOver (
+    noAnswerIf (ltb end (length s)) TrailingBytes (
     noAnswerIf (ltb 65536 n) OutOfRange (
     IsSize n)))
 
 unfoldable pub hashAt : ℕ → List ℕ → ℕ → AnswerRead
 hashAt h s at =
     thenAnswer (numberAt s at) (λ v end.
-    noAnswerIf (ltb end (length s)) LeftOver (
+    noAnswerIf (ltb end (length s)) TrailingBytes (
     noAnswerIf (leb (2 ^ h) v) OutOfRange (
     IsHash v)))
 
@@ -58,7 +58,7 @@ unfoldable pub syndromeAt : ℕ → ℕ → List ℕ → ℕ → AnswerRead
 syndromeAt len h s at =
     thenAnswer (numberAt s at) (λ a b.
     thenAnswer (numberAt s b) (λ v end.
-    noAnswerIf (ltb end (length s)) LeftOver (
+    noAnswerIf (ltb end (length s)) TrailingBytes (
     noAnswerIf (ltb len a) OutOfRange (
     noAnswerIf (leb (2 ^ h) v) OutOfRange (
     IsSyndrome a v)))))
@@ -66,8 +66,8 @@ syndromeAt len h s at =
 -- exactly as many bytes as len bits take, and these a string of len bits: spare bits zero
 unfoldable pub bitsAt : ℕ → List ℕ → ℕ → AnswerRead
 bitsAt len s at =
-    noAnswerIf (ltb (length s) (at + bytesFor len)) CutShort (
-    noAnswerIf (ltb (at + bytesFor len) (length s)) LeftOver (
+    noAnswerIf (ltb (length s) (at + bytesFor len)) Truncated (
+    noAnswerIf (ltb (at + bytesFor len) (length s)) TrailingBytes (
     noAnswerIf (not (stringRule (drop at s) len)) OutOfRange (
     IsBits at)))
 

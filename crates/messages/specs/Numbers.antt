@@ -4,7 +4,7 @@ use mathlib.Core.List.{List, [], _∷_}
 use Prim.Native.Nat.{ℕ, zero, suc, _+_, _-_, _*_, _/_, _%_}
 use lib.ListN.{length, getD}
 use lib.Dec.{ltb, leb, eqb}
-use Rattle.strings.specs.declared.Refusal.the-variants.{CutShort, BadNumber}
+use Rattle.strings.specs.declared.Refusal.the-variants.{Truncated, BadNumber}
 use Rattle.messages.specs.declared.numbers.NumberRead.{NumberRead}
 use Rattle.messages.specs.declared.numbers.NumberRead.the-variants.{Value, NoNumber}
 
@@ -21,12 +21,12 @@ number v = groups 4 v
 -- 4 if the message ends; 5 for a zero last byte after another byte; 5 for a fifth byte (k is 0) above hexadecimal 0f
 unfoldable pub nextByte : ℕ → List ℕ → ℕ → ℕ → ℕ → NumberRead
 nextByte zero s at w v =
-    cond (leb (length s) at) (NoNumber CutShort) (
+    cond (leb (length s) at) (NoNumber Truncated) (
     cond (eqb (getD s at 0) 0) (NoNumber BadNumber) (
     cond (ltb 15 (getD s at 0)) (NoNumber BadNumber) (
     Value (v + w * getD s at 0) (at + 1))))
 nextByte (suc k) s at w v =
-    cond (leb (length s) at) (NoNumber CutShort) (
+    cond (leb (length s) at) (NoNumber Truncated) (
     cond (eqb (getD s at 0) 0) (NoNumber BadNumber) (
     cond (ltb (getD s at 0) 128) (Value (v + w * getD s at 0) (at + 1)) (
     nextByte k s (at + 1) (w * 128) (v + w * (getD s at 0 - 128)))))
@@ -34,6 +34,6 @@ nextByte (suc k) s at w v =
 -- the number at a position of the message s, and the position behind it; a first byte may be zero
 unfoldable pub numberAt : List ℕ → ℕ → NumberRead
 numberAt s at =
-    cond (leb (length s) at) (NoNumber CutShort) (
+    cond (leb (length s) at) (NoNumber Truncated) (
     cond (ltb (getD s at 0) 128) (Value (getD s at 0) (at + 1)) (
     nextByte 3 s (at + 1) 128 (getD s at 0 - 128)))

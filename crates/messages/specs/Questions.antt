@@ -6,7 +6,7 @@ use lib.ListN.{length}
 use lib.Dec.{ltb, eqb}
 use Rattle.strings.specs.SettingLimits.{hashLimits, keyLimits}
 use Rattle.strings.specs.declared.Refusal.{Refusal}
-use Rattle.strings.specs.declared.Refusal.the-variants.{LeftOver, OutOfRange}
+use Rattle.strings.specs.declared.Refusal.the-variants.{TrailingBytes, OutOfRange}
 use Rattle.messages.specs.declared.Kind.{Kind}
 use Rattle.messages.specs.declared.Kind.the-variants.{Open, Hash, Syndrome, Bits}
 use Rattle.messages.specs.declared.numbers.NumberRead.{NumberRead}
@@ -53,7 +53,7 @@ noQuestionIf false e q = q
 -- an opening whose fields end at position end of size bytes: nothing may follow; version 1, h and key within the settings' limits
 abbrev pub openingIn : ℕ → ℕ → ℕ → ℕ → ℕ → QuestionRead
 openingIn size version h key end =
-    noQuestionIf (ltb end size) LeftOver (
+    noQuestionIf (ltb end size) TrailingBytes (
     noQuestionIf (not (eqb version 1)) OutOfRange (
     noQuestionIf (not (hashLimits h)) OutOfRange (
     noQuestionIf (not (keyLimits key)) OutOfRange (
@@ -69,7 +69,7 @@ openingAt s at =
 -- a range question whose fields end at position end of size bytes: nothing may follow; 1 bit or more, ending by n
 abbrev pub rangeIn : (ℕ → ℕ → Question) → ℕ → ℕ → ℕ → ℕ → ℕ → QuestionRead
 rangeIn ask size n start len end =
-    noQuestionIf (ltb end size) LeftOver (
+    noQuestionIf (ltb end size) TrailingBytes (
     noQuestionIf (ltb len 1) OutOfRange (
     noQuestionIf (ltb n (start + len)) OutOfRange (
     Asked (ask start len))))

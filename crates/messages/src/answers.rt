@@ -71,7 +71,7 @@ fn read_size(s: &[u8], at: usize) -> AnswerRead
         NumberRead::NoNumber(e) => AnswerRead::NoAnswer(e),
         NumberRead::Value(n, end) => {
             if end < s.len() {
-                return AnswerRead::NoAnswer(Refusal::LeftOver);
+                return AnswerRead::NoAnswer(Refusal::TrailingBytes);
             }
             if 65536 < n {
                 return AnswerRead::NoAnswer(Refusal::OutOfRange);
@@ -89,7 +89,7 @@ fn read_hash(h: u32, s: &[u8], at: usize) -> AnswerRead
         NumberRead::NoNumber(e) => AnswerRead::NoAnswer(e),
         NumberRead::Value(v, end) => {
             if end < s.len() {
-                return AnswerRead::NoAnswer(Refusal::LeftOver);
+                return AnswerRead::NoAnswer(Refusal::TrailingBytes);
             }
             if too_wide(v, h) {
                 return AnswerRead::NoAnswer(Refusal::OutOfRange);
@@ -109,7 +109,7 @@ fn read_syndrome(len: u32, h: u32, s: &[u8], at: usize) -> AnswerRead
             NumberRead::NoNumber(e) => AnswerRead::NoAnswer(e),
             NumberRead::Value(v, end) => {
                 if end < s.len() {
-                    return AnswerRead::NoAnswer(Refusal::LeftOver);
+                    return AnswerRead::NoAnswer(Refusal::TrailingBytes);
                 }
                 if len < a {
                     return AnswerRead::NoAnswer(Refusal::OutOfRange);
@@ -133,10 +133,10 @@ fn read_bits(len: u32, s: &[u8], at: usize) -> AnswerRead
     let end = s.len();
     let rest = end - at;
     if rest < bytes {
-        return AnswerRead::NoAnswer(Refusal::CutShort);
+        return AnswerRead::NoAnswer(Refusal::Truncated);
     }
     if bytes < rest {
-        return AnswerRead::NoAnswer(Refusal::LeftOver);
+        return AnswerRead::NoAnswer(Refusal::TrailingBytes);
     }
     if !strings::keeps_string_rule(&s[at..end], bits) {
         return AnswerRead::NoAnswer(Refusal::OutOfRange);

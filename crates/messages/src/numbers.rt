@@ -24,7 +24,7 @@ fn read_fifth(s: &[u8], i: usize, v: u32) -> NumberRead
     ensures { λ r. ⌜ r ≡ nextByte 0 (now (s .entry)) i 268435456 v ⌝ }
 {
     if s.len() <= i {
-        return NumberRead::NoNumber(Refusal::CutShort);
+        return NumberRead::NoNumber(Refusal::Truncated);
     }
     let last = s[i];
     if last == 0 {
@@ -41,7 +41,7 @@ pub fn read_number(s: &[u8], at: usize) -> NumberRead
     ensures { λ r. ⌜ r ≡ numberAt (now (s .entry)) at ⌝ }
 {
     if s.len() <= at {
-        return NumberRead::NoNumber(Refusal::CutShort);
+        return NumberRead::NoNumber(Refusal::Truncated);
     }
     let first = s[at];
     if first < 128 {
@@ -53,7 +53,7 @@ pub fn read_number(s: &[u8], at: usize) -> NumberRead
     let mut k: u32 = 3;
     while 0 < k {
         if s.len() <= i {
-            return NumberRead::NoNumber(Refusal::CutShort);
+            return NumberRead::NoNumber(Refusal::Truncated);
         }
         let b = s[i];
         if b == 0 {

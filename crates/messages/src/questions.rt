@@ -32,7 +32,7 @@ fn opening_in(size: usize, version: u32, h: u32, key: u32, end: usize) -> Questi
     ensures { λ r. ⌜ r ≡ openingIn size version h key end ⌝ }
 {
     if end < size {
-        return QuestionRead::NoQuestion(Refusal::LeftOver);
+        return QuestionRead::NoQuestion(Refusal::TrailingBytes);
     }
     if version != 1 {
         return QuestionRead::NoQuestion(Refusal::OutOfRange);
@@ -70,7 +70,7 @@ fn range_in(kind: Kind, bytes: usize, n: u32, start: u32, len: u32, end: usize) 
     ensures { λ r. ⌜ r ≡ rangeIn (asking kind) bytes n start len end ⌝ }
 {
     if end < bytes {
-        return QuestionRead::NoQuestion(Refusal::LeftOver);
+        return QuestionRead::NoQuestion(Refusal::TrailingBytes);
     }
     if len < 1 {
         return QuestionRead::NoQuestion(Refusal::OutOfRange);

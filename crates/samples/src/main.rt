@@ -1,6 +1,6 @@
 // Prints samples on standard output, which the gate compares with the stored stdout: outputs of Marsaglia's xorshift, rows and hashes,
 // the syndrome and every repair of each string of up to 8 bits, messages and anchor places at the edges that 01 names, and calls that are
-// turned down. The stored file is worked out from document 01 by another program (docs/samples.py).
+// turned down. The stored file is worked out from document 01 by another program (tools/samples.py).
 ghost use Prim.Native.Nat.{_≤_, _<_};
 use codes::NumberAnswer;
 use codes::RepairAnswer;

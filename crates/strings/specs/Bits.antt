@@ -8,6 +8,10 @@ use lib.Seq.{sets}
 use lib.Dec.{eqb}
 use lib.Bits.{bitXor}
 
+-- 01, "Strings and settings": the most bits that a string has
+abbrev pub maxBits : ℕ
+maxBits = 65536
+
 -- bit i of the bytes s: the digit of byte i / 8 at place 7 - i % 8; past the end it is 0
 unfoldable pub bitAt : List ℕ → ℕ → Bool
 bitAt s i = eqb (getD s (i / 8) 0 / 2 ^ (7 - i % 8) % 2) 1
@@ -74,4 +78,4 @@ sameBits (a ∷ l) (b ∷ m) = cond (differs a b) false (sameBits l m)
 -- the len bits from bit start on are bits of s, and lie within what a string can hold
 pub record Part (s : List ℕ) (start len : ℕ) : Type 0 where
   pub there : start + len ≤ 8 * length s
-  pub few : start + len ≤ 65536
+  pub few : start + len ≤ maxBits

@@ -3,4 +3,5 @@ pub mod Bits
 pub mod StringRule
 pub mod SettingLimits
 pub mod Refusals
+pub mod Results
 pub mod laws

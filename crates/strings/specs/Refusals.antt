@@ -1,15 +1,15 @@
 -- 01, "Why a call is turned down": the number of each refusal.
 use Prim.Native.Nat.{ℕ}
 use Rattle.strings.specs.declared.Refusal.{Refusal}
-use Rattle.strings.specs.declared.Refusal.the-variants.{BadSetting, BadString, OutOfTurn, CutShort, BadNumber, BadKind, LeftOver, OutOfRange, NoRoom}
+use Rattle.strings.specs.declared.Refusal.the-variants.{BadSetting, BadString, OutOfTurn, Truncated, BadNumber, BadKind, TrailingBytes, OutOfRange, BufferTooShort}
 
 abbrev pub refusalNumber : Refusal → ℕ
 refusalNumber BadSetting = 1
 refusalNumber BadString = 2
 refusalNumber OutOfTurn = 3
-refusalNumber CutShort = 4
+refusalNumber Truncated = 4
 refusalNumber BadNumber = 5
 refusalNumber BadKind = 6
-refusalNumber LeftOver = 7
+refusalNumber TrailingBytes = 7
 refusalNumber OutOfRange = 8
-refusalNumber NoRoom = 9
+refusalNumber BufferTooShort = 9

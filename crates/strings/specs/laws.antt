@@ -1,6 +1,7 @@
 -- Laws of the definitions, for proofs.
 pub mod StoreLaws
 pub mod Tests
+pub mod ResultLaws
 pub mod SettingLaws
 pub mod BitLaws
 pub mod RangeLaws

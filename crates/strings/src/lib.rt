@@ -14,6 +14,9 @@ pub use settings::Settings;
 pub use settings::both;
 pub use settings::is_between;
 
+// The most bits that a string has (specs/Bits.antt: maxBits).
+pub const MAX_BITS: usize = 65536;
+
 // Why a call is turned down (01, "Why a call is turned down"). specs/Refusals.antt has the numbers, 1 to 9 in this order.
 pub enum Refusal {
     // A setting handed in is outside its limits.
@@ -23,17 +26,17 @@ pub enum Refusal {
     // The call is out of turn, or the state is unsound.
     OutOfTurn,
     // The message ends inside its kind, a field or its bits.
-    CutShort,
+    Truncated,
     // A number is not in its shortest form, or is 2^32 or more.
     BadNumber,
     // The kind is unknown, or is not the one that is awaited.
     BadKind,
     // Bytes follow the last field or its bits.
-    LeftOver,
+    TrailingBytes,
     // A value is outside its range.
     OutOfRange,
     // A lent buffer or sheet is too short.
-    NoRoom,
+    BufferTooShort,
 }
 
 // The number of a refusal.
@@ -44,12 +47,12 @@ pub fn refusal_number(e: Refusal) -> u32
         Refusal::BadSetting => 1,
         Refusal::BadString => 2,
         Refusal::OutOfTurn => 3,
-        Refusal::CutShort => 4,
+        Refusal::Truncated => 4,
         Refusal::BadNumber => 5,
         Refusal::BadKind => 6,
-        Refusal::LeftOver => 7,
+        Refusal::TrailingBytes => 7,
         Refusal::OutOfRange => 8,
-        Refusal::NoRoom => 9,
+        Refusal::BufferTooShort => 9,
     }
 }
 
@@ -57,7 +60,7 @@ pub fn refusal_number(e: Refusal) -> u32
 pub fn keeps_string_rule(s: &[u8], bits: usize) -> bool
     ensures { λ r. ⌜ r ≡ stringRule (now (s .entry)) bits ⌝ }
 {
-    if 65536 < bits {
+    if MAX_BITS < bits {
         return false;
     }
     if s.len() != (bits + 7) / 8 {

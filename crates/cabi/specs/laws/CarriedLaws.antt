@@ -13,7 +13,7 @@ use Rattle.strings.specs.laws.PackLaws.{Bytes}
 use Rattle.strings.specs.StringRule.{stringRule}
 use Rattle.strings.specs.laws.RuleLaws.{rule-is}
 use Rattle.strings.specs.laws.Tests.{and-left, and-right, by-test}
-use Rattle.strings.specs.declared.Refusal.the-variants.{BadSetting, BadString, OutOfTurn, NoRoom}
+use Rattle.strings.specs.declared.Refusal.the-variants.{BadSetting, BadString, OutOfTurn, BufferTooShort}
 use Rattle.strings.specs.declared.settings.Settings.{Settings}
 use Rattle.ends.specs.declared.Piece.{Piece}
 use Rattle.ends.specs.declared.Rebuilder.{Rebuilder}
@@ -134,9 +134,9 @@ pub start-carried : (S : Settings) (y : List ℕ) (bits stateRoom room : ℕ) (s
     → rebuilderOf (rebuilderBytes st ++ l) ≡ st
 unfolding startOnBytes
 start-carried S y bits stateRoom room st m l e =
-    let t = unless-started (withinLimits S) BadSetting (unlessStarted (stringRule y bits) BadString (unlessStarted (leb 564 stateRoom) NoRoom (rebuilderStart S y bits room))) st m e in
-    let u = unless-started (stringRule y bits) BadString (unlessStarted (leb 564 stateRoom) NoRoom (rebuilderStart S y bits room)) st m (t .1) in
-    let v = unless-started (leb 564 stateRoom) NoRoom (rebuilderStart S y bits room) st m (u .1) in
+    let t = unless-started (withinLimits S) BadSetting (unlessStarted (stringRule y bits) BadString (unlessStarted (leb 564 stateRoom) BufferTooShort (rebuilderStart S y bits room))) st m e in
+    let u = unless-started (stringRule y bits) BadString (unlessStarted (leb 564 stateRoom) BufferTooShort (rebuilderStart S y bits room)) st m (t .1) in
+    let v = unless-started (leb 564 stateRoom) BufferTooShort (rebuilderStart S y bits room) st m (u .1) in
     let k = started-is S y bits room st m (v .1) in
     let f = fresh-sound S bits (k .limits) (rule-is y bits (k .string) .few) in
     rebuilder-read st l (rw (k .state) (sound-fits (freshRebuilder S bits) (f .0) (f .1)))

@@ -6,7 +6,7 @@ use Prim.Native.Nat.{ℕ, _+_, _≤_, _<_}
 use Rattle.strings.specs.Bits.{Part}
 use Rattle.strings.specs.StringRule.{stringRule}
 use Rattle.strings.specs.declared.Refusal.{Refusal}
-use Rattle.strings.specs.declared.Refusal.the-variants.{NoRoom}
+use Rattle.strings.specs.declared.Refusal.the-variants.{BufferTooShort}
 use Rattle.messages.specs.declared.Question.{Question}
 use Rattle.messages.specs.declared.WriteResult.{WriteResult}
 use Rattle.messages.specs.declared.WriteResult.the-variants.{Written, TooShort}
@@ -23,7 +23,7 @@ refused st e = record { answer = Refused e; state = st }
 
 -- what a writer's result comes to: 9 where the reply is too short
 abbrev pub written : (st next : Holder) → WriteResult → HolderOut
-written st next TooShort = refused st NoRoom
+written st next TooShort = refused st BufferTooShort
 written st next (Written size) = record { answer = Replied size; state = next }
 
 -- the state after the opening

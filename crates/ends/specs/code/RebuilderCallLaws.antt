@@ -17,7 +17,7 @@ use Rattle.strings.specs.laws.RuleLaws.{rule-is}
 use Rattle.strings.specs.laws.RangeLaws.{range-length}
 use Rattle.strings.specs.laws.PackLaws.{Bytes}
 use Rattle.strings.specs.declared.Refusal.{Refusal}
-use Rattle.strings.specs.declared.Refusal.the-variants.{BadSetting, BadString, OutOfTurn, NoRoom}
+use Rattle.strings.specs.declared.Refusal.the-variants.{BadSetting, BadString, OutOfTurn, BufferTooShort}
 use Rattle.messages.specs.declared.Kind.{Kind}
 use Rattle.messages.specs.declared.Kind.the-variants.{Open, Hash, Syndrome, Bits}
 use Rattle.messages.specs.declared.WriteResult.{WriteResult}
@@ -306,10 +306,10 @@ module _ (st : Rebuilder) (msg : List ℕ) (len : ℕ) (read : AnswerRead) (d : 
       go (inl w) = let p = w .phase in omega arith
       go (inr a) = let p = a .0 .phase in omega arith
 
-  pub hears-short : (y : List ℕ) (r : Rooms) → answerRoom st r read ≡ false → hears st y msg r len read ≡ refuses NoRoom
+  pub hears-short : (y : List ℕ) (r : Rooms) → answerRoom st r read ≡ false → hears st y msg r len read ≡ refuses BufferTooShort
   hears-short y r e = go read refl e
     where
-      go : (x : AnswerRead) → read ≡ x → answerRoom st r x ≡ false → hears st y msg r len x ≡ refuses NoRoom
+      go : (x : AnswerRead) → read ≡ x → answerRoom st r x ≡ false → hears st y msg r len x ≡ refuses BufferTooShort
       go (IsSize n) f e = rw (eq-eqb (st .phase) 0 (opening-phase n f), e) refl
       go (IsHash v) f e = rw (ne-eqb (st .phase) 0 (hash-phase v f), e) refl
       go (IsSyndrome a v) f e = rw (ne-eqb (st .phase) 0 (syndrome-phase a v f), e) refl
@@ -398,7 +398,7 @@ module _ (S : Settings) (y : List ℕ) (bits : ℕ) (q : List ℕ) where
     start-bad-string e = rw (a, e) refl
 
     module _ (b : stringRule y bits ≡ true) where
-      pub start-no-room : length q < 8 → started ≡ startDeclines NoRoom
+      pub start-no-room : length q < 8 → started ≡ startDeclines BufferTooShort
       unfolding rebuilderStart
       start-no-room h = rw (a, b, lt-leb 8 (length q) h) refl
 

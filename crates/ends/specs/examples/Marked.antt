@@ -25,7 +25,7 @@ abbrev refusalOf : NumberRead → ℕ
 refusalOf (Value v at) = 0
 refusalOf (NoNumber e) = refusalNumber e
 
-pub record Samples : Type 0 where
+pub record MarkedSamples : Type 0 where
   -- M1 to M5: 101 put in with syndrome 0, 1, 2, 3, 4 gives 1001, 0101, 1101, 1011, 1010
   pub m1 : putIn 0 bits101 ≡ some (true ∷ false ∷ false ∷ true ∷ [])
   pub m2 : putIn 1 bits101 ≡ some (false ∷ true ∷ false ∷ true ∷ [])
@@ -55,9 +55,9 @@ pub record Samples : Type 0 where
   pub packed101 : range (0xa0 ∷ []) 0 3 ≡ bits101
   pub packed1011 : range (0xb0 ∷ []) 0 4 ≡ bits1011
 
-pub samples : Samples
+pub marked-samples : MarkedSamples
 unfolding putIn takeOut withSyndrome insertions deletions syndrome row step xorLeft xorRight hash hashFrom groups number nextByte numberAt bitAt range
-samples =
+marked-samples =
     record {
       m1 = refl;
       m2 = refl;

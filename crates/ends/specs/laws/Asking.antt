@@ -32,7 +32,7 @@ use Rattle.strings.specs.Bits.{range}
 use Rattle.strings.specs.laws.PackLaws.{Bytes}
 use Rattle.strings.specs.StringRule.{stringRule}
 use Rattle.strings.specs.declared.Refusal.{Refusal}
-use Rattle.strings.specs.declared.Refusal.the-variants.{BadString, NoRoom, OutOfTurn}
+use Rattle.strings.specs.declared.Refusal.the-variants.{BadString, BufferTooShort, OutOfTurn}
 
 -- the question for a stage's number
 pub asks-number : (S : Settings) (pc : Piece) (j : ℕ) → asks S (pc .x) (pc .p) (numberedStage S (pc .p) (pc .q) j) ≡ askFor (S .m) j pc
@@ -101,7 +101,7 @@ module _ (st : Rebuilder) (y : List ℕ) (bits : ℕ) (msg : List ℕ) (rooms : 
   given-taken : (a : Answer) → given st y msg rooms a ≡ takes step next
       → (roomFor st (bitsKnown st a) rooms ≡ true) × (step ≡ stepOf st y (length msg) a) × (next ≡ writtenQuestion (planned (stepOf st y (length msg) a .state)))
   given-taken a e =
-      let u = unless-taken (roomFor st (bitsKnown st a) rooms) NoRoom (takes (stepOf st y (length msg) a) (writtenQuestion (planned (stepOf st y (length msg) a .state)))) step next e in
+      let u = unless-taken (roomFor st (bitsKnown st a) rooms) BufferTooShort (takes (stepOf st y (length msg) a) (writtenQuestion (planned (stepOf st y (length msg) a .state)))) step next e in
       let f = u .1 in
       (u .0, (cc), (cc))
 

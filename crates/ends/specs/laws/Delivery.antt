@@ -36,7 +36,7 @@ use Rattle.strings.specs.StringRule.{stringRule}
 use Rattle.strings.specs.laws.Tests.{by-test}
 use Rattle.strings.specs.laws.WriteLaws.{length-writeBits}
 use Rattle.strings.specs.declared.Refusal.{Refusal}
-use Rattle.strings.specs.declared.Refusal.the-variants.{BadSetting, BadString, NoRoom}
+use Rattle.strings.specs.declared.Refusal.the-variants.{BadSetting, BadString, BufferTooShort}
 
 -- ---- questions
 abbrev pub NotOpen : Question → Type 0
@@ -144,6 +144,6 @@ unfolding rebuilderStart
 started-is S y bits qr r q e =
     let u = unless-started (withinLimits S) BadSetting _ r q e in
     let v = unless-started (stringRule y bits) BadString _ r q (u .1) in
-    let w = unless-started (leb 8 qr) NoRoom _ r q (v .1) in
+    let w = unless-started (leb 8 qr) BufferTooShort _ r q (v .1) in
     let d = w .1 in
     record { limits = limits-is S (u .0); string = v .0; enough = leb-true 8 qr (w .0); state = (cc); question = (cc) }

@@ -30,7 +30,7 @@ use Rattle.strings.specs.laws.RuleLaws.{rule-is}
 use Rattle.strings.specs.StringRule.{stringRule}
 use Rattle.strings.specs.laws.Tests.{and-left, both}
 use Rattle.strings.specs.declared.Refusal.{Refusal}
-use Rattle.strings.specs.declared.Refusal.the-variants.{BadString, NoRoom, OutOfTurn}
+use Rattle.strings.specs.declared.Refusal.the-variants.{BadString, BufferTooShort, OutOfTurn}
 
 -- ---- a call of the holder that was answered
 pub record HeardCall (st : Holder) (x : List ℕ) (bits : ℕ) (msg : List ℕ) (room : ℕ) (next : Holder) (reply : List ℕ) : Type 0 where
@@ -70,7 +70,7 @@ module _ (st : Holder) (x : List ℕ) (bits : ℕ) (msg : List ℕ) (room : ℕ)
           asked t (NoQuestion d) g e = let z : _≡_ {A = ℕ} 0 1 = cc in absurd (omega arith)
           asked t (Asked q) g e =
               let m = answerBytes (answer (st .h) (st .key) (range x 0 bits) q) in
-              let u = unless-heard (leb (length m) room) NoRoom (replies (afterAnswer st bits q) m) next reply e in
+              let u = unless-heard (leb (length m) room) BufferTooShort (replies (afterAnswer st bits q) m) next reply e in
               let d = u .1 in
               record { few = f; sound-before = s; left = l; kind = kd; at = at; known = k; turn = t; q = q; fields = g; after = (cc); sends = (cc) }
 

@@ -13,7 +13,7 @@ use Rattle.strings.specs.laws.WriteLaws.{write-none, write-next}
 use Rattle.strings.specs.laws.PackLaws.{packed-into}
 use Rattle.lines.specs.declared.FieldFound.{FieldFound}
 use Rattle.lines.specs.declared.FieldFound.the-variants.{At, Missing}
-use Rattle.lines.specs.declared.StringRead.the-variants.{Bits, NotBits, NoRoom}
+use Rattle.lines.specs.declared.StringRead.the-variants.{Bits, NotBits, BufferTooShort}
 use Rattle.lines.specs.Fields.{field, bytesBetween}
 use Rattle.lines.specs.StringLine.{isBit, allBits, bitsOf, leaves, stringInto, stringIn}
 
@@ -69,7 +69,7 @@ module _ (line buf : List ℕ) where
     unfolding stringInto
     string-other e = rw (le-leb (length line) 65536 few, ← d, e) refl
 
-    pub string-short : t ≡ true → length buf < bytesFor (length line) → leaves NoRoom buf ≡ stringInto line buf
+    pub string-short : t ≡ true → length buf < bytesFor (length line) → leaves BufferTooShort buf ≡ stringInto line buf
     unfolding stringInto
     string-short e h = rw (le-leb (length line) 65536 few, ← d, e, lt-leb (bytesFor (length line)) (length buf) h) refl
 

@@ -16,7 +16,7 @@ use Rattle.strings.specs.laws.RangeLaws.{range-length, range-behind}
 use Rattle.strings.specs.laws.RuleLaws.{rule-is, is-rule}
 use Rattle.strings.specs.laws.PackLaws.{Bytes, length-pack, pack-bits, pack-string, string-packed}
 use Rattle.strings.specs.declared.Refusal.{Refusal}
-use Rattle.strings.specs.declared.Refusal.the-variants.{CutShort, BadKind, LeftOver, OutOfRange}
+use Rattle.strings.specs.declared.Refusal.the-variants.{Truncated, BadKind, TrailingBytes, OutOfRange}
 use Rattle.messages.specs.declared.Kind.{Kind}
 use Rattle.messages.specs.declared.Kind.the-variants.{Open, Hash, Syndrome, Bits}
 use Rattle.messages.specs.declared.numbers.NumberRead.{NumberRead}
@@ -104,18 +104,18 @@ module _ {o : AnswerRead} {r n : NumberRead} (p : r ≡ n) (f : ℕ → ℕ → 
 -- the tests of a syndrome and a hash that end at position end of size bytes
 abbrev pub syndromeIn : (len h size a v end : ℕ) → AnswerRead
 syndromeIn len h size a v end =
-    noAnswerIf (ltb end size) LeftOver (
+    noAnswerIf (ltb end size) TrailingBytes (
     noAnswerIf (ltb len a) OutOfRange (
     noAnswerIf (leb (2 ^ h) v) OutOfRange (
     IsSyndrome a v)))
 
 -- the bits, where t is the rest of the message
 module _ (len : ℕ) (s : List ℕ) (at : ℕ) (h : at ≤ length s) where
-  pub bits-cut : length s - at < bytesFor len → NoAnswer CutShort ≡ bitsAt len s at
+  pub bits-cut : length s - at < bytesFor len → NoAnswer Truncated ≡ bitsAt len s at
   unfolding bitsAt
   bits-cut l = rw (lt-ltb (length s) (at + bytesFor len) (omega arith)) refl
 
-  pub bits-left : bytesFor len < length s - at → NoAnswer LeftOver ≡ bitsAt len s at
+  pub bits-left : bytesFor len < length s - at → NoAnswer TrailingBytes ≡ bitsAt len s at
   unfolding bitsAt
   bits-left l = rw (le-ltb (length s) (at + bytesFor len) (omega arith), lt-ltb (at + bytesFor len) (length s) (omega arith)) refl
 

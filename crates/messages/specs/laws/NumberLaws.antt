@@ -14,7 +14,7 @@ use borrow.Author.Tests.{lt-ltb, le-ltb, le-leb, lt-leb, eq-eqb, ne-eqb, ltb-tru
 use Rattle.strings.specs.laws.PackLaws.{Bytes}
 use Rattle.strings.specs.laws.Tests.{by-test}
 use Rattle.strings.specs.declared.Refusal.{Refusal}
-use Rattle.strings.specs.declared.Refusal.the-variants.{CutShort, BadNumber}
+use Rattle.strings.specs.declared.Refusal.the-variants.{Truncated, BadNumber}
 use Rattle.messages.specs.declared.numbers.NumberRead.{NumberRead}
 use Rattle.messages.specs.declared.numbers.NumberRead.the-variants.{Value, NoNumber}
 use Rattle.messages.specs.Numbers.{groups, number, nextByte, numberAt}
@@ -109,11 +109,11 @@ weight-most (suc (suc zero)) = omega arith
 weight-most (suc (suc (suc k))) = omega arith
 
 module _ (s : List ℕ) (k i w v : ℕ) where
-  pub read-cut : length s ≤ i → nextByte k s i w v ≡ NoNumber CutShort
+  pub read-cut : length s ≤ i → nextByte k s i w v ≡ NoNumber Truncated
   unfolding nextByte
   read-cut h = go k
     where
-      go : (k : ℕ) → nextByte k s i w v ≡ NoNumber CutShort
+      go : (k : ℕ) → nextByte k s i w v ≡ NoNumber Truncated
       go zero = rw (le-leb (length s) i h) refl
       go (suc k) = rw (le-leb (length s) i h) refl
 
@@ -176,7 +176,7 @@ pub read-short : (s : List ℕ) (at v : ℕ) → at < length s → getD s at 0 �
 unfolding numberAt
 read-short s at v h e l = rw (lt-leb (length s) at h, e, lt-ltb v 128 l) refl
 
-pub read-none : (s : List ℕ) (at : ℕ) → length s ≤ at → numberAt s at ≡ NoNumber CutShort
+pub read-none : (s : List ℕ) (at : ℕ) → length s ≤ at → numberAt s at ≡ NoNumber Truncated
 unfolding numberAt
 read-none s at h = rw (le-leb (length s) at h) refl
 
@@ -449,14 +449,14 @@ number-inside s at v b =
 drop-end : (s : List ℕ) (i : ℕ) → drop i s ≡ [] → length s ≤ i
 drop-end s i d = let e = length-drop i s in let f : length (drop i s) ≡ 0 = ap length d in omega arith
 
-rest-cut : (k : ℕ) (s : List ℕ) (i w a v j : ℕ) → drop i s ≡ take j (groups k v) → j < length (groups k v) → nextByte k s i w a ≡ NoNumber CutShort
+rest-cut : (k : ℕ) (s : List ℕ) (i w a v j : ℕ) → drop i s ≡ take j (groups k v) → j < length (groups k v) → nextByte k s i w a ≡ NoNumber Truncated
 unfolding groups
 rest-cut k s i w a v zero d h = read-cut s k i w a (drop-end s i d)
 rest-cut zero s i w a v (suc j) d h = absurd (omega arith)
 rest-cut (suc k) s i w a v (suc j) d h = go (decLt v 128) (rest-cut k s (i + 1) (w * 128) (a + w * (v % 128)) (v / 128) j)
   where
-    go : Dec (v < 128) → (drop (i + 1) s ≡ take j (groups k (v / 128)) → j < length (groups k (v / 128)) → nextByte k s (i + 1) (w * 128) (a + w * (v % 128)) ≡ NoNumber CutShort)
-        → nextByte (suc k) s i w a ≡ NoNumber CutShort
+    go : Dec (v < 128) → (drop (i + 1) s ≡ take j (groups k (v / 128)) → j < length (groups k (v / 128)) → nextByte k s (i + 1) (w * 128) (a + w * (v % 128)) ≡ NoNumber Truncated)
+        → nextByte (suc k) s i w a ≡ NoNumber Truncated
     go (yes l) rec = let h′ : suc j < 1 = rw (lt-ltb v 128 l) at h in absurd (omega arith)
     go (no l) rec =
         let t : 128 ≤ v = omega arith in
@@ -471,12 +471,12 @@ rest-cut (suc k) s i w a v (suc j) d h = go (decLt v 128) (rest-cut k s (i + 1) 
         ∙ rec (f .2) (omega arith)
 
 -- the first j bytes of a number, fewer than all, and then the end: 4
-pub number-cut : (s : List ℕ) (at v j : ℕ) → drop at s ≡ take j (number v) → j < length (number v) → numberAt s at ≡ NoNumber CutShort
+pub number-cut : (s : List ℕ) (at v j : ℕ) → drop at s ≡ take j (number v) → j < length (number v) → numberAt s at ≡ NoNumber Truncated
 unfolding number groups
 number-cut s at v zero d h = read-none s at (drop-end s at d)
 number-cut s at v (suc j) d h = go (decLt v 128)
   where
-    go : Dec (v < 128) → numberAt s at ≡ NoNumber CutShort
+    go : Dec (v < 128) → numberAt s at ≡ NoNumber Truncated
     go (yes l) = let h′ : suc j < 1 = rw (lt-ltb v 128 l) at h in absurd (omega arith)
     go (no l) =
         let t : 128 ≤ v = omega arith in

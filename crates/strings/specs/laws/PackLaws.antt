@@ -12,7 +12,7 @@ use lib.Seq.{sets, sets-eq, length-sets, ext-getD, getD-set-same, getD-set-other
 use lib.Dec.{eqb}
 use lib.Bits.{bitXor, xor-lt}
 use lib.Pow.{pow-lt}
-use Rattle.strings.specs.Bits.{bitAt, range, bytesFor, flipped, setBit, differs, writeBits, zeroBytes, pack, cleared, atFront}
+use Rattle.strings.specs.Bits.{maxBits, bitAt, range, bytesFor, flipped, setBit, differs, writeBits, zeroBytes, pack, cleared, atFront}
 use Rattle.strings.specs.StringRule.{IsString}
 use Rattle.strings.specs.laws.StoreLaws.{sets-front}
 use Rattle.strings.specs.laws.RangeLaws.{range-length, range-at}
@@ -60,7 +60,7 @@ pack-spare l i h =
     let e = length-zeros (bytesFor (length l)) in
     write-outside (zeroBytes (bytesFor (length l))) 0 l i (omega arith) (inr (omega arith)) ∙ zeros-bit (bytesFor (length l)) i
 
-pub pack-string : (l : List Bool) → length l ≤ 65536 → IsString (pack l) (length l)
+pub pack-string : (l : List Bool) → length l ≤ maxBits → IsString (pack l) (length l)
 pack-string l h = record { few = h; bytes = length-pack l; spare = pack-spare l }
 
 -- ---- bytes stay bytes

@@ -10,7 +10,7 @@ use lib.ListN.{length, getD}
 use lib.Dec.{eqb, leb}
 use lib.Pow.{field, mod-mod-pow, mod-pow-add}
 use borrow.Author.Tests.{eqb-true, eq-eqb, le-leb, leb-true}
-use Rattle.strings.specs.Bits.{bitAt, range, bytesFor}
+use Rattle.strings.specs.Bits.{maxBits, bitAt, range, bytesFor}
 use Rattle.strings.specs.StringRule.{noneSet, stringRule, IsString}
 use Rattle.strings.specs.laws.Tests.{true-false, and-left, and-right}
 use Rattle.strings.specs.laws.BitLaws.{bit-past}
@@ -35,8 +35,8 @@ module _ (s : List ℕ) (n : ℕ) where
   pub rule-is : stringRule s n ≡ true → IsString s n
   unfolding stringRule
   rule-is e =
-      let f = leb-true n 65536 (and-left (leb n 65536) _ e) in
-      let g = and-right (leb n 65536) (eqb (length s) (bytesFor n) && noneSet (range s n (8 * bytesFor n - n))) e in
+      let f = leb-true n maxBits (and-left (leb n maxBits) _ e) in
+      let g = and-right (leb n maxBits) (eqb (length s) (bytesFor n) && noneSet (range s n (8 * bytesFor n - n))) e in
       let b = eqb-true (length s) (bytesFor n) (and-left (eqb (length s) (bytesFor n)) _ g) in
       let z = and-right (eqb (length s) (bytesFor n)) (noneSet (range s n (8 * bytesFor n - n))) g in
       record { few = f; bytes = b; spare = λ i l. go i l b z (decLt i (8 * length s)) }
@@ -51,7 +51,7 @@ module _ (s : List ℕ) (n : ℕ) where
   is-rule g =
       let z : noneSet (range s n (8 * bytesFor n - n)) ≡ true =
       none-all (range s n (8 * bytesFor n - n)) (λ i l. let k = range-length s n (8 * bytesFor n - n) in range-at s n (8 * bytesFor n - n) i (omega arith) ∙ g .spare (n + i) (omega arith)) in
-      rw (le-leb n 65536 (g .few), eq-eqb (length s) (bytesFor n) (g .bytes), z) refl
+      rw (le-leb n maxBits (g .few), eq-eqb (length s) (bytesFor n) (g .bytes), z) refl
 
 -- a test that holds just if the rule does is the rule
 as-rule : (s : List ℕ) (n : ℕ) (t : Bool) → (t ≡ true → IsString s n) → (IsString s n → t ≡ true) → t ≡ stringRule s n
@@ -90,13 +90,13 @@ zero-digit m = ap (λ (n : ℕ). n % 2) (zero-div (2 ^ m))
 
 -- ---- what the code looks at: the length and the last byte
 module _ (s : List ℕ) (n : ℕ) where
-  pub rule-many : 65536 < n → false ≡ stringRule s n
+  pub rule-many : maxBits < n → false ≡ stringRule s n
   rule-many h = as-rule s n false (λ e. absurd (true-false (sym e))) (λ g. absurd (let f = g .few in omega arith))
 
   pub rule-length : (length s ≡ bytesFor n → ⊥) → false ≡ stringRule s n
   rule-length h = as-rule s n false (λ e. absurd (true-false (sym e))) (λ g. absurd (h (g .bytes)))
 
-  module _ (few : n ≤ 65536) (bytes : length s ≡ bytesFor n) where
+  module _ (few : n ≤ maxBits) (bytes : length s ≡ bytesFor n) where
     pub rule-even : n % 8 ≡ 0 → true ≡ stringRule s n
     rule-even z = as-rule s n true (λ e. record { few = few; bytes = bytes; spare = λ i l. bit-past s i (omega arith) }) (λ g. refl)
 

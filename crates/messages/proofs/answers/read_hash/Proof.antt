@@ -2,7 +2,7 @@ use mathlib.Core.Path.{_≡_, refl, sym, _∙_}
 use Prim.Native.Nat.{_^_}
 use lib.ListN.{length}
 use lib.Dec.{ltb, leb}
-use Rattle.strings.specs.declared.Refusal.the-variants.{LeftOver, OutOfRange}
+use Rattle.strings.specs.declared.Refusal.the-variants.{TrailingBytes, OutOfRange}
 use Rattle.messages.specs.declared.AnswerRead.the-variants.{IsHash}
 use Rattle.messages.specs.Answers.{noAnswerIf, hashAt}
 use borrow.Author.Tests.{le-ltb, lt-ltb}
@@ -13,7 +13,7 @@ use Rattle.messages.proofs.answers.read_hash.Tie as tie
 
 -- what is left to test where the number is known
 v-read : (c : tie.After-v) → let a = c .before .before .before .before .args in let v = c .v .given .0 .0 in
-    hashAt (a .h) (a .s .now) (a .at) ≡ noAnswerIf (ltb (c .v .given .0 .1 .0) (length (a .s .now))) LeftOver (noAnswerIf (leb (2 ^ a .h) v) OutOfRange (IsHash v))
+    hashAt (a .h) (a .s .now) (a .at) ≡ noAnswerIf (ltb (c .v .given .0 .1 .0) (length (a .s .now))) TrailingBytes (noAnswerIf (leb (2 ^ a .h) v) OutOfRange (IsHash v))
 unfolding hashAt
 v-read c = answer-number (c .before .before .next-number .ensures) _ refl (c .v .given .1)
 

@@ -1,7 +1,7 @@
 use mathlib.Core.Path.{_≡_, refl, sym, _∙_}
 use lib.ListN.{length}
 use lib.Dec.{ltb}
-use Rattle.strings.specs.declared.Refusal.the-variants.{LeftOver, OutOfRange}
+use Rattle.strings.specs.declared.Refusal.the-variants.{TrailingBytes, OutOfRange}
 use Rattle.messages.specs.declared.AnswerRead.the-variants.{IsSize}
 use Rattle.messages.specs.Answers.{noAnswerIf, sizeAt}
 use borrow.Author.Tests.{le-ltb, lt-ltb}
@@ -12,7 +12,7 @@ use Rattle.messages.proofs.answers.read_size.Tie as tie
 
 -- what is left to test where the number is known
 n-read : (c : tie.After-n) → let a = c .before .before .before .before .args in let n = c .n .given .0 .0 in
-    sizeAt (a .s .now) (a .at) ≡ noAnswerIf (ltb (c .n .given .0 .1 .0) (length (a .s .now))) LeftOver (noAnswerIf (ltb 65536 n) OutOfRange (IsSize n))
+    sizeAt (a .s .now) (a .at) ≡ noAnswerIf (ltb (c .n .given .0 .1 .0) (length (a .s .now))) TrailingBytes (noAnswerIf (ltb 65536 n) OutOfRange (IsSize n))
 unfolding sizeAt
 n-read c = answer-number (c .before .before .next-number .ensures) _ refl (c .n .given .1)
 
