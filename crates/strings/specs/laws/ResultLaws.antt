@@ -1,7 +1,6 @@
 -- Laws of results.
-use mathlib.Core.Path.{_≡_, refl}
+use mathlib.Core.Path.{_≡_, refl, sym, subst}
 use mathlib.Core.Bool.{Bool, true, false}
-use mathlib.Core.Logic.{absurd}
 use Prim.Native.Nat.{ℕ}
 use Rattle.strings.specs.Refusals.{refusalNumber}
 use Rattle.strings.specs.declared.Refusal.{Refusal}
@@ -13,7 +12,7 @@ isValue (refusal number) = ⊥
 isValue (value a) = Unit {0}
 
 pub no-value : {A : Type 0} (k : ℕ) (a : A) → refusal k ≡ value a → ⊥
-no-value k a e = subst (λ r. isValue r) (sym e) ()
+no-value k a e = subst (λ r. isValue r) (sym e) tt
 
 -- a call that gives a value has passed the test
 pub unless-passed : {A : Type 0} (b : Bool) (e : Refusal) (go : Result A) (a : A) → unless b e go ≡ value a → (b ≡ true) × (go ≡ value a)
@@ -23,4 +22,4 @@ unless-passed false e go a is = absurd (no-value (refusalNumber e) a is)
 -- and has read what stands first
 pub then-passed : {A B : Type 0} (r : Result A) (rest : A → Result B) (b : B) → andThen r rest ≡ value b → (a : A) × (r ≡ value a) × (rest a ≡ value b)
 then-passed (refusal k) rest b is = absurd (no-value k b is)
-then-passed (value a) rest b is = (a, (refl, is))
+then-passed (value a) rest b is = (a, refl, is)
