@@ -21,11 +21,11 @@ use Rattle.messages.specs.Questions.{fieldsAt}
 use Rattle.messages.specs.Answers.{answerBytes}
 use Rattle.ends.specs.declared.Holder.{Holder}
 use Rattle.ends.specs.Runs.{answer}
-use Rattle.ends.specs.Soundness.{holderSound}
+use Rattle.ends.specs.Soundness.{mostAnswers, holderSound}
 
 -- a fresh holder
 abbrev pub freshHolder : Holder
-freshHolder = record { opened = 0; bits = 0; h = 0; key = 0; answers = 0 }
+freshHolder = record { opened = false; bits = 0; h = 0; key = 0; answers = 0 }
 
 -- what a call comes to: turned down, or the next state and the message that is sent
 pub data Heard : Type 0 where
@@ -38,18 +38,18 @@ unlessHeard false e go = declines e
 
 -- an opened holder is held to the bit count of its opening
 unfoldable pub sameBitCount : Holder → ℕ → Bool
-sameBitCount st bits = not (eqb (st .opened) 1) || eqb (st .bits) bits
+sameBitCount st bits = not (st .opened) || eqb (st .bits) bits
 
 -- kind 0 is in turn before the opening, the others after it
-abbrev pub inTurn : ℕ → Kind → Bool
-inTurn opened Open = eqb opened 0
-inTurn opened Hash = eqb opened 1
-inTurn opened Syndrome = eqb opened 1
-inTurn opened Bits = eqb opened 1
+abbrev pub inTurn : Bool → Kind → Bool
+inTurn opened Open = not opened
+inTurn opened Hash = opened
+inTurn opened Syndrome = opened
+inTurn opened Bits = opened
 
 -- the state after an answer
 abbrev pub afterAnswer : Holder → ℕ → Question → Holder
-afterAnswer st bits (AskOpen h key) = record { opened = 1; bits = bits; h = h; key = key; answers = 1 }
+afterAnswer st bits (AskOpen h key) = record { opened = true; bits = bits; h = h; key = key; answers = 1 }
 afterAnswer st bits (AskHash x p) = record { opened = st .opened; bits = st .bits; h = st .h; key = st .key; answers = st .answers + 1 }
 afterAnswer st bits (AskSyndrome x p) = record { opened = st .opened; bits = st .bits; h = st .h; key = st .key; answers = st .answers + 1 }
 afterAnswer st bits (AskBits x p) = record { opened = st .opened; bits = st .bits; h = st .h; key = st .key; answers = st .answers + 1 }
@@ -70,5 +70,5 @@ ofKind st x bits msg room (Known k at) = unlessHeard (inTurn (st .opened) k) Out
 unfoldable pub holderCall : Holder → (x : List ℕ) (bits : ℕ) (msg : List ℕ) (room : ℕ) → Heard
 holderCall st x bits msg room =
     unlessHeard (stringRule x bits && sameBitCount st bits) BadString (
-    unlessHeard (holderSound st && ltb (st .answers) 1000000) OutOfTurn (
+    unlessHeard (holderSound st && ltb (st .answers) mostAnswers) OutOfTurn (
     ofKind st x bits msg room (kindAt msg)))

@@ -2,7 +2,7 @@
 use mathlib.Core.Bool.{Bool, true, false, cond, _&&_}
 use mathlib.Core.List.{List, [], _∷_}
 use mathlib.Core.Option.{Option, none, some}
-use Prim.Native.Nat.{ℕ, zero, suc, _+_, _-_, _*_, _/_}
+use Prim.Native.Nat.{ℕ, _+_, _-_, _*_, _/_}
 use lib.ListN.{length, replicate}
 use lib.Seq.{sets}
 use lib.Dec.{leb, ltb, eqb}
@@ -23,7 +23,10 @@ use Rattle.ends.specs.declared.Rebuilder.{Rebuilder}
 use Rattle.ends.specs.declared.SheetChange.{SheetChange}
 use Rattle.ends.specs.declared.SheetChange.the-variants.{NoRow, AddRow, OneRow}
 use Rattle.strings.specs.SettingLimits.{withinLimits}
-use Rattle.ends.specs.Segments.{Stage, hashing, puttingIn, takingOut, anchors, middle, Effect, settles, stays, splits, effect, row, theSize, theBits}
+use Rattle.ends.specs.declared.Phase.{Phase}
+use Rattle.ends.specs.declared.Phase.the-variants.{AtOpening, AtPieces, AtWhole}
+use Rattle.ends.specs.declared.Stage.the-variants.{Hashing}
+use Rattle.ends.specs.Segments.{Effect, settles, stays, splits, effect, row, theSize, theBits}
 use Rattle.ends.specs.States.{noPiece, top, popped, pushed, restaged, retried, splitAt, planned}
 use Rattle.ends.specs.Soundness.{sound}
 
@@ -32,12 +35,12 @@ abbrev pub freshRebuilder : Settings → ℕ → Rebuilder
 freshRebuilder S bits = record {
   settings = S;
   ybits = bits;
-  phase = 0;
+  phase = AtOpening;
   n = 0;
   answered = 0;
   counted = 0;
   rows = 0;
-  stage = 0;
+  stage = Hashing;
   waiting = 0;
   pieces = replicate 32 noPiece;
 }
@@ -60,14 +63,6 @@ rebuilderStart S y bits room =
     starts (freshRebuilder S bits) (questionBytes (AskOpen (S .h) (S .key))))))
 
 -- ---- what an answer makes of state, string and sheet
--- the stage that a state's number stands for, of a piece of lengths p and q
-abbrev pub numberedStage : Settings → (p q j : ℕ) → Stage
-numberedStage S p q zero = cond (eqb q p) hashing (cond (eqb (q + 1) p) puttingIn takingOut)
-numberedStage S p q (suc zero) = anchors (middle (S .m) p ∷ (middle (S .m) p + S .m) ∷ (middle (S .m) p - S .m) ∷ [])
-numberedStage S p q (suc (suc zero)) = anchors ((middle (S .m) p + S .m) ∷ (middle (S .m) p - S .m) ∷ [])
-numberedStage S p q (suc (suc (suc zero))) = anchors ((middle (S .m) p - S .m) ∷ [])
-numberedStage S p q (suc (suc (suc (suc j)))) = anchors []
-
 -- what happens to the string buffer: nothing; its first bytesFor n bytes are zeroed; bits are written from a place on
 pub data StringChange : Type 0 where
   keeps : StringChange
@@ -100,7 +95,7 @@ pub record Step : Type 0 where
   pub sheet : SheetChange
 
 -- the state with other phase and counts
-abbrev pub counting : Rebuilder → (phase answered counted rows : ℕ) → Rebuilder
+abbrev pub counting : Rebuilder → Phase → (answered counted rows : ℕ) → Rebuilder
 counting st ph a c r = record {
   settings = st .settings;
   ybits = st .ybits;
@@ -117,7 +112,7 @@ counting st ph a c r = record {
 -- an answer of size bytes and the rows that it brought are counted; past the ceiling, if pieces wait, bits 0, n is asked for
 unfoldable pub tallied : Rebuilder → (size rows : ℕ) → Rebuilder
 tallied st size rows =
-    counting st (cond (ltb (st .settings .ceiling) (st .counted + size) && ltb 0 (st .waiting)) 2 1) (st .answered + 1) (st .counted + size) (st .rows + rows)
+    counting st (cond (ltb (st .settings .ceiling) (st .counted + size) && ltb 0 (st .waiting)) AtWhole AtPieces) (st .answered + 1) (st .counted + size) (st .rows + rows)
 
 -- what the effect of an answer of size bytes on the leftmost piece makes
 unfoldable pub effectStep : Rebuilder → (size : ℕ) → Effect → Step
@@ -138,12 +133,12 @@ abbrev pub openedState : Rebuilder → ℕ → Rebuilder
 openedState st n = record {
   settings = st .settings;
   ybits = st .ybits;
-  phase = 1;
+  phase = AtPieces;
   n = n;
   answered = st .answered + 1;
   counted = 0;
   rows = 0;
-  stage = 0;
+  stage = Hashing;
   waiting = 0;
   pieces = st .pieces;
 }
@@ -161,12 +156,12 @@ abbrev pub wholeState : Rebuilder → (size : ℕ) → Rebuilder
 wholeState st size = record {
   settings = st .settings;
   ybits = st .ybits;
-  phase = 1;
+  phase = AtPieces;
   n = st .n;
   answered = st .answered + 1;
   counted = st .counted + size;
   rows = 1;
-  stage = 0;
+  stage = Hashing;
   waiting = 0;
   pieces = replicate 32 noPiece;
 }
@@ -175,13 +170,14 @@ wholeState st size = record {
 unfoldable pub wholeStep : Rebuilder → (size : ℕ) → List Bool → Step
 wholeStep st size l = record { state = wholeState st size; string = writes 0 l; sheet = OneRow (st .rows) (row 0 (st .n) ByBits) }
 
--- one answer of size bytes
+-- one answer of size bytes, by what is awaited
+abbrev pub stepAt : Phase → Rebuilder → (y : List ℕ) → (size : ℕ) → Answer → Step
+stepAt AtOpening st y size a = openingStep st (theSize a)
+stepAt AtPieces st y size a = effectStep st size (effect (st .settings) a (top st .p) (range y (top st .y) (top st .q)) (st .stage))
+stepAt AtWhole st y size a = wholeStep st size (theBits a)
+
 unfoldable pub stepOf : Rebuilder → (y : List ℕ) → (size : ℕ) → Answer → Step
-stepOf st y size a =
-    cond (eqb (st .phase) 0) (openingStep st (theSize a)) (
-    cond (eqb (st .phase) 1)
-    (effectStep st size (effect (st .settings) a (top st .p) (range y (top st .y) (top st .q)) (numberedStage (st .settings) (top st .p) (top st .q) (st .stage))))
-    (wholeStep st size (theBits a)))
+stepOf st y size a = stepAt (st .phase) st y size a
 
 -- ---- the call
 -- what it comes to: turned down, or a step and the question that is written, which is empty at the finish
@@ -214,8 +210,13 @@ pub record Rooms : Type 0 where
 abbrev pub roomFor : Rebuilder → ℕ → Rooms → Bool
 roomFor st n rooms = leb (bytesFor n) (rooms .string) && (leb (2 * (n / st .settings .m) + 1) (rooms .sheet) && leb 8 (rooms .question))
 
+abbrev pub bitsKnownAt : Phase → Rebuilder → Answer → ℕ
+bitsKnownAt AtOpening st a = theSize a
+bitsKnownAt AtPieces st a = st .n
+bitsKnownAt AtWhole st a = st .n
+
 abbrev pub bitsKnown : Rebuilder → Answer → ℕ
-bitsKnown st a = cond (eqb (st .phase) 0) (theSize a) (st .n)
+bitsKnown st a = bitsKnownAt (st .phase) st a
 
 abbrev pub given : Rebuilder → (y msg : List ℕ) → Rooms → Answer → Taken
 given st y msg rooms a =

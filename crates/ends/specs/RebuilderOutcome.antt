@@ -3,6 +3,8 @@ use mathlib.Core.List.{List, [], _∷_}
 use Prim.Native.Nat.{ℕ}
 use lib.ListN.{length, replicate}
 use Rattle.ends.specs.declared.Rebuilder.{Rebuilder}
+use Rattle.ends.specs.declared.Phase.the-variants.{AtOpening}
+use Rattle.ends.specs.declared.Stage.the-variants.{Hashing}
 use Rattle.ends.specs.declared.SheetChange.{SheetChange}
 use Rattle.ends.specs.declared.SheetChange.the-variants.{NoRow}
 use Rattle.ends.specs.States.{noPiece}
@@ -34,12 +36,12 @@ abbrev pub noRebuilder : Rebuilder
 noRebuilder = record {
   settings = record { m = 0; h = 0; k = 0; key = 0; ceiling = 0 };
   ybits = 0;
-  phase = 0;
+  phase = AtOpening;
   n = 0;
   answered = 0;
   counted = 0;
   rows = 0;
-  stage = 0;
+  stage = Hashing;
   waiting = 0;
   pieces = replicate 32 noPiece;
 }

@@ -13,6 +13,10 @@ use Rattle.messages.specs.Answers.{Answer, sizeAnswer, hashAnswer, syndromeAnsw
 use Rattle.strings.specs.declared.settings.Settings.{Settings}
 use Rattle.ends.specs.declared.How.{How}
 use Rattle.ends.specs.declared.How.the-variants.{ByHash, ByPutIn, ByTakeOut, ByAnchor, ByBits}
+use Rattle.ends.specs.declared.Stage.{Stage}
+use Rattle.ends.specs.declared.Stage.the-variants.{Hashing, PuttingIn, TakingOut, Anchor, AllBits}
+use Rattle.ends.specs.declared.Attempt.{Attempt}
+use Rattle.ends.specs.declared.Attempt.the-variants.{First, Second, Third}
 use Rattle.ends.specs.declared.Row.{Row}
 use Rattle.ends.specs.Anchors.{part, place}
 
@@ -53,13 +57,7 @@ theBits (hashAnswer v) = []
 theBits (syndromeAnswer a v) = []
 theBits (bitsAnswer l) = l
 
--- what is asked of a waiting piece: its hash (step 2); its syndrome, to put a bit in or to take one out (step 3);
--- bits at the anchor offsets that are left to try, and with none left the bits of the whole piece (step 4)
-pub data Stage : Type 0 where
-  hashing puttingIn takingOut : Stage
-  anchors : List ℕ → Stage
-
--- a piece of X with its copy, its range of Y: dropped, since it has no bits (step 1); waiting, of p bits; or settled, with its bits
+-- a piece of X with its copy, its range of Y: dropped, since it has no bits (step 1); waiting, of p bits, at a stage (Stage: what is asked of it); or settled, with its bits
 pub data Segment : Type 0 where
   dropped : (copy : List Bool) → Segment
   waiting : (p : ℕ) (copy : List Bool) → Stage → Segment
@@ -71,20 +69,39 @@ span (dropped ys) = 0
 span (waiting p ys t) = p
 span (settled w ys b) = length b
 
--- step 4's first offset
-abbrev pub middle : ℕ → ℕ → ℕ
+-- step 4's three offsets
+abbrev pub middle : (m p : ℕ) → ℕ
 middle m p = (p - m) / 2
+
+abbrev pub offset : (m p : ℕ) → Attempt → ℕ
+offset m p First = middle m p
+offset m p Second = middle m p + m
+offset m p Third = middle m p - m
 
 abbrev pub tooSmall : Settings → ℕ → ℕ → Bool
 tooSmall S p q = ltb p (4 * (S .m + S .h)) || ltb q (S .m)
 
 -- step 4, for p bits of X and q of Y
 unfoldable pub laterStage : Settings → ℕ → ℕ → Stage
-laterStage S p q = anchors (cond (tooSmall S p q) [] (middle (S .m) p ∷ (middle (S .m) p + S .m) ∷ (middle (S .m) p - S .m) ∷ []))
+laterStage S p q = cond (tooSmall S p q) AllBits (Anchor First)
 
 -- the step at which a piece begins
 unfoldable pub firstStage : Settings → ℕ → ℕ → Stage
-firstStage S p q = cond (eqb q p) hashing (cond (eqb (q + 1) p) puttingIn (cond (eqb q (p + 1)) takingOut (laterStage S p q)))
+firstStage S p q = cond (eqb q p) Hashing (cond (eqb (q + 1) p) PuttingIn (cond (eqb q (p + 1)) TakingOut (laterStage S p q)))
+
+-- "while none can be placed": the stage after an anchor that isn't; after three, all bits
+abbrev pub afterAnchor : Attempt → Stage
+afterAnchor First = Anchor Second
+afterAnchor Second = Anchor Third
+afterAnchor Third = AllBits
+
+-- the stage after one whose answer did not settle the piece
+abbrev pub nextStage : Settings → (p q : ℕ) → Stage → Stage
+nextStage S p q Hashing = laterStage S p q
+nextStage S p q PuttingIn = laterStage S p q
+nextStage S p q TakingOut = laterStage S p q
+nextStage S p q (Anchor i) = afterAnchor i
+nextStage S p q AllBits = AllBits
 
 -- a new piece
 unfoldable pub begin : Settings → ℕ → List Bool → Segment
@@ -106,19 +123,19 @@ abbrev pub trialOf : Settings → ℕ → How → Option (List Bool) → Effect 
 trialOf S v w none other = other
 trialOf S v w (some b) other = trial S v w b other
 
-abbrev pub placed : ℕ → List Bool → List ℕ → Option ℕ → Effect
-placed s b l none = stays (anchors l)
-placed s b l (some r) = splits s r b
+abbrev pub placed : ℕ → List Bool → Stage → Option ℕ → Effect
+placed s b next none = stays next
+placed s b next (some r) = splits s r b
 
 abbrev pub retry : Settings → ℕ → List Bool → Effect
 retry S p ys = stays (laterStage S p (length ys))
 
 unfoldable pub effect : Settings → Answer → ℕ → List Bool → Stage → Effect
-effect S a p ys hashing = trial S (theHash a) ByHash ys (retry S p ys)
-effect S a p ys puttingIn = trialOf S (theHash a) ByPutIn (putIn (theSyndrome a) ys) (retry S p ys)
-effect S a p ys takingOut = trialOf S (theHash a) ByTakeOut (takeOut (theSyndrome a) ys) (retry S p ys)
-effect S a p ys (anchors []) = settles ByBits (theBits a)
-effect S a p ys (anchors (s ∷ l)) = placed s (theBits a) l (place (S .m) (S .k) p s ys (theBits a))
+effect S a p ys Hashing = trial S (theHash a) ByHash ys (retry S p ys)
+effect S a p ys PuttingIn = trialOf S (theHash a) ByPutIn (putIn (theSyndrome a) ys) (retry S p ys)
+effect S a p ys TakingOut = trialOf S (theHash a) ByTakeOut (takeOut (theSyndrome a) ys) (retry S p ys)
+effect S a p ys (Anchor i) = placed (offset (S .m) p i) (theBits a) (afterAnchor i) (place (S .m) (S .k) p (offset (S .m) p i) ys (theBits a))
+effect S a p ys AllBits = settles ByBits (theBits a)
 
 -- the pieces that come of it: a placed anchor is one too
 abbrev pub made : Settings → ℕ → List Bool → Effect → List Segment
@@ -133,11 +150,11 @@ work S a p ys t = made S p ys (effect S a p ys t)
 -- ---- the leftmost waiting piece
 -- the question for a piece that starts at x of X
 abbrev pub asks : Settings → ℕ → ℕ → Stage → Question
-asks S x p hashing = AskHash x p
-asks S x p puttingIn = AskSyndrome x p
-asks S x p takingOut = AskSyndrome x p
-asks S x p (anchors []) = AskBits x p
-asks S x p (anchors (s ∷ l)) = AskBits (x + s) (S .m)
+asks S x p Hashing = AskHash x p
+asks S x p PuttingIn = AskSyndrome x p
+asks S x p TakingOut = AskSyndrome x p
+asks S x p (Anchor i) = AskBits (x + offset (S .m) p i) (S .m)
+asks S x p AllBits = AskBits x p
 
 -- the question for the leftmost waiting piece, of pieces that start at x; none if none waits
 abbrev pub ask : Settings → ℕ → List Segment → Option Question

@@ -10,9 +10,11 @@ ghost use Rattle.messages.specs.declared.KindRead.the-variants.{Known};
 ghost use Rattle.messages.specs.declared.QuestionRead.the-variants.{Asked};
 ghost use Rattle.messages.specs.Answers.{sizeAnswer, hashAnswer, syndromeAnswer, bitsAnswer, answerBytes};
 ghost use Rattle.ends.specs.HolderCall.{freshHolder, sameBitCount, inTurn, sends, answersTo, ofKind, holderCall};
+ghost use Rattle.ends.specs.Soundness.{mostAnswers};
 ghost use Rattle.ends.specs.HolderOutcome.{saidHolder, leavesHolder};
 ghost use Rattle.ends.specs.code.HolderParts.{refused, written, openedWith, oneMore, Answers, Able, Ready};
 use crate::Holder;
+use crate::MOST_ANSWERS;
 use crate::sound::holder_is_sound;
 use messages::Kind;
 use messages::KindRead;
@@ -40,7 +42,7 @@ pub fn fresh_holder() -> Holder
     ensures { λ r. ⌜ r ≡ freshHolder ⌝ }
 {
     Holder {
-        opened: 0,
+        opened: false,
         bits: 0,
         h: 0,
         key: 0,
@@ -73,7 +75,7 @@ fn reply_written(st: Holder, next: Holder, w: WriteResult) -> HolderOut
 
 // The state after an answer other than the opening's.
 fn one_more(st: Holder) -> Holder
-    requires { ⌜ st .answers < 1000000 ⌝ }
+    requires { ⌜ st .answers < mostAnswers ⌝ }
     ensures { λ r. ⌜ r ≡ oneMore st ⌝ }
 {
     Holder {
@@ -90,7 +92,7 @@ fn answer_open(st: Holder, n: u32, h: u32, key: u32, reply: &mut [u8]) -> Holder
     ensures { λ r. ⌜ saidHolder r (now (reply .exit)) ≡ leavesHolder st (now (reply .entry)) (sends (length (now (reply .entry))) (openedWith n h key) (answerBytes (sizeAnswer n))) ⌝ }
 {
     let next = Holder {
-        opened: 1,
+        opened: true,
         bits: n,
         h: h,
         key: key,
@@ -147,14 +149,14 @@ fn answer_question(st: Holder, x: &[u8], n: u32, q: Question, reply: &mut [u8]) 
 }
 
 // Whether a known kind is in turn: kind 0 before the opening, the others after it.
-fn is_in_turn(opened: u32, kind: Kind) -> bool
+fn is_in_turn(opened: bool, kind: Kind) -> bool
     ensures { λ r. ⌜ r ≡ inTurn opened kind ⌝ }
 {
     match kind {
-        Kind::Open => opened == 0,
-        Kind::Hash => opened == 1,
-        Kind::Syndrome => opened == 1,
-        Kind::Bits => opened == 1,
+        Kind::Open => !opened,
+        Kind::Hash => opened,
+        Kind::Syndrome => opened,
+        Kind::Bits => opened,
     }
 }
 
@@ -184,10 +186,10 @@ fn answer_kind(
 fn has_same_bit_count(st: Holder, bits: usize) -> bool
     ensures { λ r. ⌜ r ≡ sameBitCount st bits ⌝ }
 {
-    if st.opened != 1 {
-        return true;
+    if st.opened {
+        return (st.bits as usize) == bits;
     }
-    (st.bits as usize) == bits
+    true
 }
 
 // The holder's call on X, its bit count, a message and the buffer for the reply.
@@ -200,7 +202,7 @@ pub fn holder_call(st: Holder, x: &[u8], bits: usize, msg: &[u8], reply: &mut [u
     ) {
         return refuse(st, Refusal::BadString);
     }
-    if !both(holder_is_sound(st), st.answers < 1000000) {
+    if !both(holder_is_sound(st), st.answers < MOST_ANSWERS) {
         return refuse(st, Refusal::OutOfTurn);
     }
     match messages::read_kind(msg) {

@@ -24,6 +24,12 @@ pub use rebuilding::rebuilder_call;
 pub use rebuilding::rebuilder_start;
 pub use sheet::rebuilder_call_on_sheet;
 
+// The most bits of a string, as the states have numbers.
+const MOST_BITS: u32 = strings::MAX_BITS as u32;
+
+// The most answers that a holder gives (specs/Soundness.antt: mostAnswers).
+const MOST_ANSWERS: u32 = 1000000;
+
 // How a row's piece was settled; specs/Segments.antt has the numbers, 1 to 5 in this order.
 pub enum How {
     ByHash,
@@ -48,21 +54,44 @@ pub struct Piece {
     pub q: u32,
 }
 
+// Step 4's anchors, in the order in which they are tried.
+pub enum Attempt {
+    First,
+    Second,
+    Third,
+}
+
+// What is asked of a waiting piece: its hash (step 2); its syndrome, to put a bit in or to take one out (step 3); the bits of an anchor,
+// or all its bits (step 4).
+pub enum Stage {
+    Hashing,
+    PuttingIn,
+    TakingOut,
+    Anchor(Attempt),
+    AllBits,
+}
+
+// What is awaited: the opening's answer; one for the leftmost waiting piece, or nothing if none waits; bits 0, n.
+pub enum Phase {
+    AtOpening,
+    AtPieces,
+    AtWhole,
+}
+
 // The rebuilder's state (docs/STATE.md).
 pub struct Rebuilder {
     pub settings: Settings,
     // Y's bit count.
     pub ybits: u32,
-    // 0: the opening's answer is awaited; 1: an answer for the leftmost waiting piece, or finished if none waits; 2: bits 0, n.
-    pub phase: u32,
+    pub phase: Phase,
     pub n: u32,
     // Questions answered, and the bytes of their answers but the opening's.
     pub answered: u32,
     pub counted: u32,
     // Used rows of the sheet.
     pub rows: u32,
-    // The leftmost piece's: 0 its hash or syndrome is asked for, 1 to 3 an anchor, 4 all its bits.
-    pub stage: u32,
+    // The leftmost piece's; Hashing if none waits.
+    pub stage: Stage,
     // The waiting pieces, the leftmost last, zeros behind it.
     pub waiting: u32,
     pub pieces: [Piece; 32],
@@ -75,9 +104,9 @@ pub enum SheetChange {
     OneRow(u32, Row),
 }
 
-// The holder's state: opened 0 or 1, and from the opening on X's bit count, h, key and the answers given.
+// The holder's state: whether it is opened, and from the opening on X's bit count, h, key and the answers given.
 pub struct Holder {
-    pub opened: u32,
+    pub opened: bool,
     pub bits: u32,
     pub h: u32,
     pub key: u32,

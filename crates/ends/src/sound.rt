@@ -2,18 +2,22 @@
 ghost use mathlib.Core.Path.{_≡_};
 ghost use mathlib.Core.Bool.{true, false};
 ghost use Prim.Native.Nat.{_+_, _-_, _*_, _/_, max, _≤_, _<_};
-ghost use Rattle.ends.specs.Soundness.{bound, holderSound, isBlank, blankFrom, pieceFits, inOrder, stageFits, stackSound, openingSound, piecesSound, wholeSound, sound, topFits, rowsFit, asksFit, lastAskFits, mostCounted, phaseSound};
+ghost use Rattle.ends.specs.Soundness.{bound, holderSound, isBlank, blankFrom, pieceFits, inOrder, stageFits, isHashing, asksBefore, stackSound, openingSound, piecesSound, wholeSound, sound, topFits, rowsFit, asksFit, lastAskFits, mostCounted, phaseSound};
 ghost use Rattle.ends.specs.Runs.{full};
 ghost use Rattle.ends.specs.States.{held};
 ghost use Rattle.ends.specs.code.StateCode.{Usable};
 ghost use Rattle.ends.specs.code.SoundCode.{Sized, Work, Sum};
+use crate::Attempt;
 use crate::Holder;
+use crate::MOST_ANSWERS;
+use crate::MOST_BITS;
+use crate::Phase;
 use crate::Piece;
 use crate::Rebuilder;
+use crate::Stage;
 use crate::state::too_small;
 use crate::state::top;
 use crate::state::wide;
-use crate::state::within_one;
 use strings::Settings;
 use strings::both;
 use strings::is_between;
@@ -22,17 +26,17 @@ use strings::is_between;
 pub fn holder_is_sound(st: Holder) -> bool
     ensures { λ r. ⌜ r ≡ holderSound st ⌝ }
 {
-    if st.opened == 0 {
-        return both(
-            st.bits == 0,
-            both(st.h == 0, both(st.key == 0, st.answers == 0)),
+    if st.opened {
+        let rest = both(
+            is_between(8, st.h, 32),
+            both(1 <= st.key, is_between(1, st.answers, MOST_ANSWERS)),
         );
+        return both(st.bits <= MOST_BITS, rest);
     }
-    let rest = both(
-        is_between(8, st.h, 32),
-        both(1 <= st.key, is_between(1, st.answers, 1000000)),
-    );
-    both(st.opened == 1, both(st.bits <= 65536, rest))
+    both(
+        st.bits == 0,
+        both(st.h == 0, both(st.key == 0, st.answers == 0)),
+    )
 }
 
 // Whether no field of the piece is set.
@@ -62,7 +66,7 @@ fn blank_behind(st: Rebuilder) -> bool
 fn length_bound(d: u32) -> u32
     ensures { λ r. ⌜ r ≡ bound d ⌝ }
 {
-    let mut b: u32 = 65536;
+    let mut b = MOST_BITS;
     let mut i: u32 = 0;
     while i < d {
         b = 5 * b / 8;
@@ -136,6 +140,23 @@ fn rows_fit(st: Rebuilder) -> bool
     used + left <= 2 * (n / m) + 1
 }
 
+// How many questions a piece has had at most before it came to a stage.
+fn asks_before(t: Stage) -> u32
+    ensures { λ r. ⌜ r ≡ asksBefore t ⌝ }
+{
+    match t {
+        Stage::Hashing => 0,
+        Stage::PuttingIn => 0,
+        Stage::TakingOut => 0,
+        Stage::Anchor(i) => match i {
+            Attempt::First => 1,
+            Attempt::Second => 2,
+            Attempt::Third => 3,
+        },
+        Stage::AllBits => 4,
+    }
+}
+
 // Whether the questions answered and those to come are within the bound.
 fn asks_fit(st: Rebuilder) -> bool
     requires { ⌜ Sized st ⌝ }
@@ -144,9 +165,9 @@ fn asks_fit(st: Rebuilder) -> bool
     let n = wide(st.n);
     let m = wide(st.settings.m);
     let answered = wide(st.answered);
-    let stage = wide(st.stage);
+    let before = wide(asks_before(st.stage));
     let left = work_left(st, 9, 5);
-    answered + left <= 9 * (n / m) + 6 + stage
+    answered + left <= 9 * (n / m) + 6 + before
 }
 
 // Whether one more question is within the bound.
@@ -161,29 +182,40 @@ fn last_ask_fits(st: Rebuilder) -> bool
 }
 
 // Whether the stage suits lengths p and q.
-fn stage_fits(s: Settings, p: u32, q: u32, j: u32) -> bool
+fn stage_fits(s: Settings, p: u32, q: u32, t: Stage) -> bool
     requires { ⌜ Usable s ⌝ }
-    ensures { λ r. ⌜ r ≡ stageFits s p q j ⌝ }
+    ensures { λ r. ⌜ r ≡ stageFits s p q t ⌝ }
 {
-    if j == 0 {
-        return within_one(p, q);
+    let a = wide(p);
+    let b = wide(q);
+    match t {
+        Stage::Hashing => b == a,
+        Stage::PuttingIn => b + 1 == a,
+        Stage::TakingOut => b == a + 1,
+        Stage::Anchor(i) => !too_small(s, p, q),
+        Stage::AllBits => true,
     }
-    if 4 < j {
-        return false;
-    }
-    if j == 4 {
-        return true;
-    }
-    !too_small(s, p, q)
 }
 
-// Whether the stage suits the leftmost piece; it is 0 if none waits.
+fn is_hashing(t: Stage) -> bool
+    ensures { λ r. ⌜ r ≡ isHashing t ⌝ }
+{
+    match t {
+        Stage::Hashing => true,
+        Stage::PuttingIn => false,
+        Stage::TakingOut => false,
+        Stage::Anchor(i) => false,
+        Stage::AllBits => false,
+    }
+}
+
+// Whether the stage suits the leftmost piece; it is Hashing if none waits.
 fn top_stage_fits(st: Rebuilder) -> bool
     requires { ⌜ Sized st ⌝ }
     ensures { λ r. ⌜ r ≡ topFits st ⌝ }
 {
     if st.waiting == 0 {
-        return st.stage == 0;
+        return is_hashing(st.stage);
     }
     let pc = top(st);
     stage_fits(st.settings, pc.p, pc.q, st.stage)
@@ -232,7 +264,7 @@ fn most_counted(st: Rebuilder) -> u32
 fn opening_is_sound(st: Rebuilder) -> bool
     ensures { λ r. ⌜ r ≡ openingSound st ⌝ }
 {
-    let rest = both(st.rows == 0, both(st.stage == 0, st.waiting == 0));
+    let rest = both(st.rows == 0, both(is_hashing(st.stage), st.waiting == 0));
     both(
         st.n == 0,
         both(st.answered == 0, both(st.counted == 0, rest)),
@@ -264,13 +296,12 @@ fn phase_is_sound(st: Rebuilder) -> bool
     requires { ⌜ Sized st ⌝ }
     ensures { λ r. ⌜ r ≡ phaseSound st ⌝ }
 {
-    if st.phase == 0 {
-        return opening_is_sound(st);
+    let phase = st.phase;
+    match phase {
+        Phase::AtOpening => opening_is_sound(st),
+        Phase::AtPieces => pieces_are_sound(st),
+        Phase::AtWhole => whole_is_sound(st),
     }
-    if st.phase == 1 {
-        return pieces_are_sound(st);
-    }
-    both(st.phase == 2, whole_is_sound(st))
 }
 
 // Whether a run can hold the rebuilder's state. The limits come first: the later tests count on them.
@@ -280,10 +311,10 @@ pub fn rebuilder_is_sound(st: Rebuilder) -> bool
     if !st.settings.is_within_limits() {
         return false;
     }
-    if 65536 < st.ybits {
+    if MOST_BITS < st.ybits {
         return false;
     }
-    if 65536 < st.n {
+    if MOST_BITS < st.n {
         return false;
     }
     if 32 < st.waiting {

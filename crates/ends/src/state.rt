@@ -1,16 +1,21 @@
 // The rebuilder's state by value: the stack of waiting pieces, stages, counts, and the question that a state asks.
 // A step requires what every sound state of its phase has: the rebuilder tests a state once, at the start of its call.
 ghost use mathlib.Core.Path.{_≡_};
-ghost use mathlib.Core.Bool.{true};
+ghost use mathlib.Core.Bool.{true, cond, _&&_};
 ghost use Prim.Native.Nat.{_+_, _-_, _*_, _/_, _≤_, _<_};
-ghost use Rattle.ends.specs.Segments.{tooSmall};
-ghost use Rattle.ends.specs.States.{top, popped, pushed, restaged, retried, splitAt, laterNumber, firstNumber, nextNumber, anchorOffset, askFor, planned};
-ghost use Rattle.ends.specs.RebuilderCall.{tallied, openingStep, wholeState, freshRebuilder};
-ghost use Rattle.ends.specs.code.StateCode.{withinOne, planOf, Usable, Holds, Stages, Retries, Offsets, Splits, Counts, Asks, Plans};
+ghost use Rattle.ends.specs.Segments.{tooSmall, laterStage, firstStage, nextStage, afterAnchor, offset, asks};
+ghost use Rattle.ends.specs.States.{stacked, top, popped, pushed, restaged, retried, splitAt, planned};
+ghost use Rattle.ends.specs.RebuilderCall.{counting, tallied, openingStep, wholeState, freshRebuilder};
+ghost use Rattle.ends.specs.declared.Phase.the-variants.{AtPieces, AtWhole};
+ghost use Rattle.ends.specs.code.StateCode.{planOf, Usable, Holds, Stages, Retries, Offsets, Splits, Counts, Asks, Plans};
+use crate::Attempt;
+use crate::Phase;
 use crate::Piece;
 use crate::Rebuilder;
+use crate::Stage;
 use messages::Question;
 use strings::Settings;
+use strings::both;
 
 // What comes next: a question, or nothing after the finish.
 pub enum Plan {
@@ -25,6 +30,45 @@ const NO_PIECE: Piece = Piece {
     y: 0,
     q: 0,
 };
+
+// The state with another stage and other pieces. A field that is an enum can't be stored to, so that the state is written anew.
+fn with_stack(st: Rebuilder, stage: Stage, waiting: u32, pieces: [Piece; 32]) -> Rebuilder
+    ensures { λ r. ⌜ r ≡ stacked st stage waiting pieces ⌝ }
+{
+    let settings = st.settings;
+    Rebuilder {
+        settings: settings,
+        ybits: st.ybits,
+        phase: st.phase,
+        n: st.n,
+        answered: st.answered,
+        counted: st.counted,
+        rows: st.rows,
+        stage: stage,
+        waiting: waiting,
+        pieces: pieces,
+    }
+}
+
+// The state with another phase and other counts.
+fn with_counts(st: Rebuilder, phase: Phase, answered: u32, counted: u32, rows: u32) -> Rebuilder
+    ensures { λ r. ⌜ r ≡ counting st phase answered counted rows ⌝ }
+{
+    let settings = st.settings;
+    let pieces = st.pieces;
+    Rebuilder {
+        settings: settings,
+        ybits: st.ybits,
+        phase: phase,
+        n: st.n,
+        answered: answered,
+        counted: counted,
+        rows: rows,
+        stage: st.stage,
+        waiting: st.waiting,
+        pieces: pieces,
+    }
+}
 
 // The leftmost waiting piece.
 pub fn top(st: Rebuilder) -> Piece
@@ -72,21 +116,6 @@ pub fn wide(v: u32) -> u64
     v as u64
 }
 
-// Whether the two lengths are equal or one apart.
-pub fn within_one(p: u32, q: u32) -> bool
-    ensures { λ r. ⌜ r ≡ withinOne p q ⌝ }
-{
-    if q == p {
-        return true;
-    }
-    let a = wide(p);
-    let b = wide(q);
-    if b + 1 == a {
-        return true;
-    }
-    b == a + 1
-}
-
 // Whether a piece is too small for anchors.
 pub fn too_small(s: Settings, p: u32, q: u32) -> bool
     requires { ⌜ Usable s ⌝ }
@@ -98,37 +127,59 @@ pub fn too_small(s: Settings, p: u32, q: u32) -> bool
     q < s.m
 }
 
-// The stage of step 4: 1 for the first anchor, 4 for all bits.
-fn later_number(s: Settings, p: u32, q: u32) -> u32
+// The stage of step 4.
+fn later_stage(s: Settings, p: u32, q: u32) -> Stage
     requires { ⌜ Usable s ⌝ }
-    ensures { λ r. ⌜ r ≡ laterNumber s p q ⌝ }
+    ensures { λ r. ⌜ r ≡ laterStage s p q ⌝ }
 {
     if too_small(s, p, q) {
-        return 4;
+        return Stage::AllBits;
     }
-    1
+    Stage::Anchor(Attempt::First)
 }
 
 // The stage at which a piece begins.
-fn first_number(s: Settings, p: u32, q: u32) -> u32
+fn first_stage(s: Settings, p: u32, q: u32) -> Stage
     requires { ⌜ Usable s ⌝ }
-    ensures { λ r. ⌜ r ≡ firstNumber s p q ⌝ }
+    ensures { λ r. ⌜ r ≡ firstStage s p q ⌝ }
 {
-    if within_one(p, q) {
-        return 0;
+    let a = wide(p);
+    let b = wide(q);
+    if b == a {
+        return Stage::Hashing;
     }
-    later_number(s, p, q)
+    if b + 1 == a {
+        return Stage::PuttingIn;
+    }
+    if b == a + 1 {
+        return Stage::TakingOut;
+    }
+    later_stage(s, p, q)
 }
 
-// The stage after stage j.
-fn next_number(s: Settings, p: u32, q: u32, j: u32) -> u32
-    requires { ⌜ Usable s × (j < 4) ⌝ }
-    ensures { λ r. ⌜ r ≡ nextNumber s p q j ⌝ }
+// The stage after an anchor that can't be placed.
+fn after_anchor(i: Attempt) -> Stage
+    ensures { λ r. ⌜ r ≡ afterAnchor i ⌝ }
 {
-    if j == 0 {
-        return later_number(s, p, q);
+    match i {
+        Attempt::First => Stage::Anchor(Attempt::Second),
+        Attempt::Second => Stage::Anchor(Attempt::Third),
+        Attempt::Third => Stage::AllBits,
     }
-    j + 1
+}
+
+// The stage after stage t.
+fn next_stage(s: Settings, p: u32, q: u32, t: Stage) -> Stage
+    requires { ⌜ Usable s ⌝ }
+    ensures { λ r. ⌜ r ≡ nextStage s p q t ⌝ }
+{
+    match t {
+        Stage::Hashing => later_stage(s, p, q),
+        Stage::PuttingIn => later_stage(s, p, q),
+        Stage::TakingOut => later_stage(s, p, q),
+        Stage::Anchor(i) => after_anchor(i),
+        Stage::AllBits => Stage::AllBits,
+    }
 }
 
 // The leftmost piece is at its first stage.
@@ -136,14 +187,13 @@ pub fn restage(st: Rebuilder) -> Rebuilder
     requires { ⌜ Stages st ⌝ }
     ensures { λ r. ⌜ r ≡ restaged st ⌝ }
 {
-    let mut s = st;
-    if s.waiting == 0 {
-        s.stage = 0;
-        return s;
+    let pieces = st.pieces;
+    if st.waiting == 0 {
+        return with_stack(st, Stage::Hashing, st.waiting, pieces);
     }
     let pc = top(st);
-    s.stage = first_number(st.settings, pc.p, pc.q);
-    s
+    let t = first_stage(st.settings, pc.p, pc.q);
+    with_stack(st, t, st.waiting, pieces)
 }
 
 // The leftmost piece is at the stage after its own.
@@ -151,25 +201,23 @@ pub fn retry(st: Rebuilder) -> Rebuilder
     requires { ⌜ Retries st ⌝ }
     ensures { λ r. ⌜ r ≡ retried st ⌝ }
 {
-    let mut s = st;
     let pc = top(st);
-    s.stage = next_number(st.settings, pc.p, pc.q, st.stage);
-    s
+    let t = next_stage(st.settings, pc.p, pc.q, st.stage);
+    let pieces = st.pieces;
+    with_stack(st, t, st.waiting, pieces)
 }
 
-// The offset of the anchor at stage 1, 2 or 3.
-pub fn anchor_offset(m: u32, p: u32, j: u32) -> u32
+// The offset of an anchor.
+pub fn anchor_offset(m: u32, p: u32, i: Attempt) -> u32
     requires { ⌜ Offsets m p ⌝ }
-    ensures { λ r. ⌜ r ≡ anchorOffset m p j ⌝ }
+    ensures { λ r. ⌜ r ≡ offset m p i ⌝ }
 {
     let c = (p - m) / 2;
-    if j == 1 {
-        return c;
+    match i {
+        Attempt::First => c,
+        Attempt::Second => c + m,
+        Attempt::Third => c - m,
     }
-    if j == 2 {
-        return c + m;
-    }
-    c - m
 }
 
 // The leftmost piece is split by an anchor at offset s, placed at r.
@@ -195,23 +243,24 @@ pub fn split_at(st: Rebuilder, s: u32, r: u32) -> Rebuilder
     restage(push(push(rest, right), left))
 }
 
+// Past the ceiling, if pieces wait, all bits are awaited.
+fn phase_after(past: bool, waits: bool) -> Phase
+    ensures { λ r. ⌜ r ≡ cond (past && waits) AtWhole AtPieces ⌝ }
+{
+    if both(past, waits) {
+        return Phase::AtWhole;
+    }
+    Phase::AtPieces
+}
+
 // An answer of size bytes and the rows that it brought are counted; past the ceiling, if pieces wait, all bits are asked for.
 pub fn tally(st: Rebuilder, size: u32, rows: u32) -> Rebuilder
     requires { ⌜ Counts st size rows ⌝ }
     ensures { λ r. ⌜ r ≡ tallied st size rows ⌝ }
 {
-    let mut s = st;
-    let counted = s.counted + size;
-    s.answered = s.answered + 1;
-    s.counted = counted;
-    s.rows = s.rows + rows;
-    s.phase = 1;
-    if s.settings.ceiling < counted {
-        if 0 < s.waiting {
-            s.phase = 2;
-        }
-    }
-    s
+    let counted = st.counted + size;
+    let phase = phase_after(st.settings.ceiling < counted, 0 < st.waiting);
+    with_counts(st, phase, st.answered + 1, counted, st.rows + rows)
 }
 
 // The state after the opening's answer n: the first piece is all of both strings.
@@ -219,14 +268,20 @@ pub fn open_state(st: Rebuilder, n: u32) -> Rebuilder
     requires { ⌜ Usable (st .settings) × (st .answered < 4294967295) ⌝ }
     ensures { λ r. ⌜ r ≡ openingStep st n .state ⌝ }
 {
-    let mut s = st;
-    s.phase = 1;
-    s.n = n;
-    s.answered = s.answered + 1;
-    s.counted = 0;
-    s.rows = 0;
-    s.stage = 0;
-    s.waiting = 0;
+    let settings = st.settings;
+    let pieces = st.pieces;
+    let s = Rebuilder {
+        settings: settings,
+        ybits: st.ybits,
+        phase: Phase::AtPieces,
+        n: n,
+        answered: st.answered + 1,
+        counted: 0,
+        rows: 0,
+        stage: Stage::Hashing,
+        waiting: 0,
+        pieces: pieces,
+    };
     restage(push(
         s,
         Piece {
@@ -243,15 +298,8 @@ pub fn whole_state(st: Rebuilder, size: u32) -> Rebuilder
     requires { ⌜ Counts st size 0 ⌝ }
     ensures { λ r. ⌜ r ≡ wholeState st size ⌝ }
 {
-    let mut s = st;
-    s.phase = 1;
-    s.answered = s.answered + 1;
-    s.counted = s.counted + size;
-    s.rows = 1;
-    s.stage = 0;
-    s.waiting = 0;
-    s.pieces = [NO_PIECE; 32];
-    s
+    let one = with_counts(st, Phase::AtPieces, st.answered + 1, st.counted + size, 1);
+    with_stack(one, Stage::Hashing, 0, [NO_PIECE; 32])
 }
 
 // The state at the start, for a copy of that many bits.
@@ -261,33 +309,29 @@ pub fn fresh_rebuilder(settings: Settings, bits: u32) -> Rebuilder
     Rebuilder {
         settings: settings,
         ybits: bits,
-        phase: 0,
+        phase: Phase::AtOpening,
         n: 0,
         answered: 0,
         counted: 0,
         rows: 0,
-        stage: 0,
+        stage: Stage::Hashing,
         waiting: 0,
         pieces: [NO_PIECE; 32],
     }
 }
 
-// The question for the leftmost piece t at stage j.
-fn ask_for(m: u32, j: u32, t: Piece) -> Question
-    requires { ⌜ Asks m j t ⌝ }
-    ensures { λ r. ⌜ r ≡ askFor m j t ⌝ }
+// The question for the piece t at its stage.
+fn ask_for(s: Settings, t: Piece, stage: Stage) -> Question
+    requires { ⌜ Asks (s .m) t stage ⌝ }
+    ensures { λ r. ⌜ r ≡ asks s (t .x) (t .p) stage ⌝ }
 {
-    if j == 0 {
-        if t.q == t.p {
-            return Question::AskHash(t.x, t.p);
-        }
-        return Question::AskSyndrome(t.x, t.p);
+    match stage {
+        Stage::Hashing => Question::AskHash(t.x, t.p),
+        Stage::PuttingIn => Question::AskSyndrome(t.x, t.p),
+        Stage::TakingOut => Question::AskSyndrome(t.x, t.p),
+        Stage::Anchor(i) => Question::AskBits(t.x + anchor_offset(s.m, t.p, i), s.m),
+        Stage::AllBits => Question::AskBits(t.x, t.p),
     }
-    if 4 <= j {
-        return Question::AskBits(t.x, t.p);
-    }
-    let s = anchor_offset(m, t.p, j);
-    Question::AskBits(t.x + s, m)
 }
 
 // What the state asks next.
@@ -295,15 +339,16 @@ pub fn plan_next(st: Rebuilder) -> Plan
     requires { ⌜ Plans st ⌝ }
     ensures { λ r. ⌜ r ≡ planOf (planned st) ⌝ }
 {
-    if st.phase == 0 {
-        return Plan::Ask(Question::AskOpen(st.settings.h, st.settings.key));
+    let phase = st.phase;
+    match phase {
+        Phase::AtOpening => Plan::Ask(Question::AskOpen(st.settings.h, st.settings.key)),
+        Phase::AtWhole => Plan::Ask(Question::AskBits(0, st.n)),
+        Phase::AtPieces => {
+            if st.waiting == 0 {
+                return Plan::Finished;
+            }
+            let t = top(st);
+            Plan::Ask(ask_for(st.settings, t, st.stage))
+        }
     }
-    if st.phase != 1 {
-        return Plan::Ask(Question::AskBits(0, st.n));
-    }
-    if st.waiting == 0 {
-        return Plan::Finished;
-    }
-    let t = top(st);
-    Plan::Ask(ask_for(st.settings.m, st.stage, t))
 }

@@ -13,13 +13,17 @@ ghost use Rattle.ends.specs.States.{top, popped, restaged, retried, spli
 ghost use Rattle.ends.specs.Soundness.{sound};
 ghost use Rattle.ends.specs.declared.SheetChange.the-variants.{NoRow, AddRow};
 ghost use Rattle.ends.specs.declared.How.the-variants.{ByAnchor};
+ghost use Rattle.ends.specs.declared.Stage.the-variants.{Hashing, Anchor, AllBits};
 ghost use Rattle.ends.specs.RebuilderCall.{tallied, stepOf};
 ghost use Rattle.ends.specs.RebuilderOutcome.{saidRebuilder, leavesRebuilder};
-ghost use Rattle.ends.specs.code.RebuilderParts.{OutIs, Acting, Splitting, Lending, OneApart, repairHow, trialStep, stepTaken, WholeDue, Opening, BitsDue, dueLength};
+ghost use Rattle.ends.specs.code.RebuilderParts.{OutIs, Acting, Splitting, Lending, Retriable, RepairDue, AsksBits, bitsOfStage, repairHow, trialStep, stepTaken, WholeDue, Opening, BitsDue, dueLength};
+use crate::Attempt;
 use crate::How;
+use crate::Phase;
 use crate::Rebuilder;
 use crate::Row;
 use crate::SheetChange;
+use crate::Stage;
 use crate::anchors;
 use crate::anchors::Place;
 use crate::rebuilding::RebuilderAnswer;
@@ -91,7 +95,7 @@ fn settle(st: Rebuilder, size: u32, how: How, question: &mut [u8]) -> RebuilderO
 // The leftmost piece is not settled, and goes to its next stage.
 fn leave_waiting(st: Rebuilder, size: u32, question: &mut [u8]) -> RebuilderOut
     requires { ⌜ Acting st size (length (now question)) ⌝ }
-    requires { ⌜ st .stage < 4 ⌝ }
+    requires { ⌜ Retriable (st .stage) ⌝ }
     ensures { λ r. ⌜ OutIs r (tallied (retried st) size 0) NoRow (now (question .entry)) (now (question .exit)) ⌝ }
 {
     let one = state::retry(st);
@@ -129,7 +133,7 @@ fn try_edit(
 ) -> RebuilderOut
     requires { ⌜ Acting st size (length (now question)) ⌝ }
     requires { ⌜ Lending st (now y) (now string) ⌝ }
-    requires { ⌜ (st .stage < 4) × Fits e (top st .q) (top st .p) ⌝ }
+    requires { ⌜ Retriable (st .stage) × Fits e (top st .q) (top st .p) ⌝ }
     ensures { λ r. ⌜ saidRebuilder r (now (string .exit)) (now (question .exit)) ≡ leavesRebuilder st (now (string .entry)) (now (question .entry)) (stepTaken (trialStep st (now (y .entry)) size v how e)) ⌝ }
 {
     let t = state::top(st);
@@ -156,7 +160,7 @@ pub fn take_hash(
 ) -> RebuilderOut
     requires { ⌜ Acting st size (length (now question)) ⌝ }
     requires { ⌜ Lending st (now y) (now string) ⌝ }
-    requires { ⌜ (st .stage ≡ 0) × (top st .q ≡ top st .p) ⌝ }
+    requires { ⌜ (st .stage ≡ Hashing) × (top st .q ≡ top st .p) ⌝ }
     ensures { λ r. ⌜ saidRebuilder r (now (string .exit)) (now (question .exit)) ≡ leavesRebuilder st (now (string .entry)) (now (question .entry)) (stepTaken (stepOf st (now (y .entry)) size (hashAnswer v))) ⌝ }
 {
     try_edit(st, y, Edit::Keep, How::ByHash, v, size, string, question)
@@ -185,7 +189,7 @@ pub fn take_syndrome(
 ) -> RebuilderOut
     requires { ⌜ Acting st size (length (now question)) ⌝ }
     requires { ⌜ Lending st (now y) (now string) ⌝ }
-    requires { ⌜ (st .stage ≡ 0) × OneApart (top st .p) (top st .q) ⌝ }
+    requires { ⌜ RepairDue st ⌝ }
     ensures { λ r. ⌜ saidRebuilder r (now (string .exit)) (now (question .exit)) ≡ leavesRebuilder st (now (string .entry)) (now (question .entry)) (stepTaken (stepOf st (now (y .entry)) size (syndromeAnswer a v))) ⌝ }
 {
     let t = state::top(st);
@@ -208,7 +212,7 @@ fn take_piece(
     question: &mut [u8],
 ) -> RebuilderOut
     requires { ⌜ Acting st size (length (now question)) ⌝ }
-    requires { ⌜ (st .n ≤ 8 * length (now string)) × (4 ≤ st .stage) ⌝ }
+    requires { ⌜ (st .n ≤ 8 * length (now string)) × (st .stage ≡ AllBits) ⌝ }
     requires { ⌜ top st .p ≤ 8 * length (now bits) ⌝ }
     ensures { λ r. ⌜ ((y : List ℕ) → saidRebuilder r (now (string .exit)) (now (question .exit)) ≡ leavesRebuilder st (now (string .entry)) (now (question .entry)) (stepTaken (stepOf st y size (bitsAnswer (range (now (bits .entry)) 0 (top st .p)))))) ⌝ }
 {
@@ -220,6 +224,7 @@ fn take_piece(
 // The m bits of an anchor.
 fn take_anchor(
     st: Rebuilder,
+    i: Attempt,
     y: &[u8],
     bits: &[u8],
     size: u32,
@@ -228,14 +233,14 @@ fn take_anchor(
 ) -> RebuilderOut
     requires { ⌜ Acting st size (length (now question)) ⌝ }
     requires { ⌜ Lending st (now y) (now string) ⌝ }
-    requires { ⌜ (0 < st .stage) × (st .stage < 4) ⌝ }
+    requires { ⌜ st .stage ≡ Anchor i ⌝ }
     requires { ⌜ st .settings .m ≤ 8 * length (now bits) ⌝ }
     ensures { λ r. ⌜ saidRebuilder r (now (string .exit)) (now (question .exit)) ≡ leavesRebuilder st (now (string .entry)) (now (question .entry)) (stepTaken (stepOf st (now (y .entry)) size (bitsAnswer (range (now (bits .entry)) 0 (st .settings .m))))) ⌝ }
 {
     let t = state::top(st);
     let m = st.settings.m as usize;
     let k = st.settings.k as usize;
-    let s = state::anchor_offset(st.settings.m, t.p, st.stage);
+    let s = state::anchor_offset(st.settings.m, t.p, i);
     let place = anchors::place_anchor(
         y,
         t.y as usize,
@@ -290,6 +295,31 @@ pub fn take_size(st: Rebuilder, n: u32, string: &mut [u8], question: &mut [u8]) 
     finish(s, SheetChange::NoRow, question)
 }
 
+// The bits of the leftmost piece that are awaited: an anchor's, or all.
+fn take_piece_bits(
+    st: Rebuilder,
+    y: &[u8],
+    bits: &[u8],
+    size: u32,
+    string: &mut [u8],
+    question: &mut [u8],
+) -> RebuilderOut
+    requires { ⌜ Acting st size (length (now question)) ⌝ }
+    requires { ⌜ Lending st (now y) (now string) ⌝ }
+    requires { ⌜ AsksBits (st .stage) × (bitsOfStage st (st .stage) ≤ 8 * length (now bits)) ⌝ }
+    ensures { λ r. ⌜ saidRebuilder r (now (string .exit)) (now (question .exit)) ≡ leavesRebuilder st (now (string .entry)) (now (question .entry)) (stepTaken (stepOf st (now (y .entry)) size (bitsAnswer (range (now (bits .entry)) 0 (bitsOfStage st (st .stage)))))) ⌝ }
+{
+    let stage = st.stage;
+    match stage {
+        Stage::Anchor(i) => take_anchor(st, i, y, bits, size, string, question),
+        Stage::AllBits => take_piece(st, bits, size, string, question),
+        // A hash or a syndrome is awaited, so that these are never come to.
+        Stage::Hashing => give(RebuilderAnswer::Finished, st, SheetChange::NoRow),
+        Stage::PuttingIn => give(RebuilderAnswer::Finished, st, SheetChange::NoRow),
+        Stage::TakingOut => give(RebuilderAnswer::Finished, st, SheetChange::NoRow),
+    }
+}
+
 // The bits that are awaited.
 pub fn take_bits(
     st: Rebuilder,
@@ -304,11 +334,11 @@ pub fn take_bits(
     requires { ⌜ dueLength st ≤ 8 * length (now bits) ⌝ }
     ensures { λ r. ⌜ saidRebuilder r (now (string .exit)) (now (question .exit)) ≡ leavesRebuilder st (now (string .entry)) (now (question .entry)) (stepTaken (stepOf st (now (y .entry)) size (bitsAnswer (range (now (bits .entry)) 0 (dueLength st))))) ⌝ }
 {
-    if st.phase == 2 {
-        return take_whole(st, bits, size, string, question);
+    let phase = st.phase;
+    match phase {
+        Phase::AtWhole => take_whole(st, bits, size, string, question),
+        Phase::AtPieces => take_piece_bits(st, y, bits, size, string, question),
+        // The opening's answer is no bits, so that this is never come to.
+        Phase::AtOpening => give(RebuilderAnswer::Finished, st, SheetChange::NoRow),
     }
-    if 4 <= st.stage {
-        return take_piece(st, bits, size, string, question);
-    }
-    take_anchor(st, y, bits, size, string, question)
 }

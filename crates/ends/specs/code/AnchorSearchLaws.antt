@@ -11,7 +11,7 @@ use lib.ListN.{getD}
 use lib.Dec.{leb}
 use borrow.Author.Count.{below-more}
 use borrow.Author.Tests.{leb-true, leb-false, le-leb, lt-leb}
-use Rattle.strings.specs.Bits.{range, bitAt, sameBits}
+use Rattle.strings.specs.Bits.{range, bitAt, sameBits, maxBits}
 use Rattle.strings.specs.StringRule.{stringRule}
 use Rattle.strings.specs.laws.RuleLaws.{rule-is}
 use Rattle.strings.specs.laws.RangeLaws.{range-length, range-at, range-equal, range-part, same-refl, same-is}
@@ -80,8 +80,8 @@ isqrt-le n =
 pub square-fits : (n : ℕ) → n ≤ 65537 → n * n ≤ 4295098369
 square-fits n h = mul-le-mul {n₁ = n} {m₁ = n} {n₂ = 65537} {m₂ = 65537} h h
 
-pub reach-fits : (k r : ℕ) → k ≤ 8 → r ≤ 65536 → 2 * k * r ≤ 1048576
-reach-fits k r h l = mul-le-mul {n₁ = 2 * k} {m₁ = r} {n₂ = 16} {m₂ = 65536} (omega arith) l
+pub reach-fits : (k r : ℕ) → k ≤ 8 → r ≤ maxBits → 2 * k * r ≤ 1048576
+reach-fits k r h l = mul-le-mul {n₁ = 2 * k} {m₁ = r} {n₂ = 16} {m₂ = maxBits} (omega arith) l
 
 -- ---- the search over any test f and distance d: after the places below r the least distance is that of the best place; with none yet it is one more than the reach
 pub record Seen (f : ℕ → Bool) (d : ℕ → ℕ) (reach r least best : ℕ) : Type 0 where
@@ -315,20 +315,20 @@ module _ (bits start q p s m : ℕ) (piece : Bool) (e : piece ≡ leb (start + q
   range-piece f = rw (← e, f) refl
 
   module _ (f : piece ≡ true) where
-    pub range-length-high : 65536 < p → false ≡ anchorRange bits start q p s m
+    pub range-length-high : maxBits < p → false ≡ anchorRange bits start q p s m
     unfolding anchorRange
-    range-length-high h = rw (← e, f, lt-leb p 65536 h) refl
+    range-length-high h = rw (← e, f, lt-leb p maxBits h) refl
 
-    pub range-offset : (inside : Bool) → inside ≡ leb (s + m) p → p ≤ 65536 → inside ≡ anchorRange bits start q p s m
+    pub range-offset : (inside : Bool) → inside ≡ leb (s + m) p → p ≤ maxBits → inside ≡ anchorRange bits start q p s m
     unfolding anchorRange
-    range-offset inside g h = rw (← e, f, le-leb p 65536 h, ← g) refl
+    range-offset inside g h = rw (← e, f, le-leb p maxBits h, ← g) refl
 
 -- ---- the host's call: what holds behind the tests, and its returns
 -- a refusal's number is at most 9, and a place is one of a string
 abbrev pub AnswerMost : Answer (Option ℕ) → Type 0
 AnswerMost (refusal e) = e ≤ 9
 AnswerMost (value none) = Unit {0}
-AnswerMost (value (some r)) = r ≤ 65536
+AnswerMost (value (some r)) = r ≤ maxBits
 
 module _ (y : List ℕ) (bits start q p s m k : ℕ) (a : List ℕ) where
   pub bad-setting : anchorSettings m k ≡ false → refusal 1 ≡ anchorSearch y bits start q p s m k a
@@ -358,10 +358,10 @@ module _ (y : List ℕ) (bits start q p s m k : ℕ) (a : List ℕ) where
               let ek = and-right (leb 8 m && leb m 64) (leb 1 k && leb k 8) e in
               let m-most = leb-true m 64 (and-right (leb 8 m) (leb m 64) em) in
               let k-most = leb-true k 8 (and-right (leb 1 k) (leb k 8) ek) in
-              let piece = leb-true (start + q) bits (and-left (leb (start + q) bits) (leb p 65536 && leb (s + m) p) h) in
-              let hp = and-right (leb (start + q) bits) (leb p 65536 && leb (s + m) p) h in
-              let p-most = leb-true p 65536 (and-left (leb p 65536) (leb (s + m) p) hp) in
-              let s-most = leb-true (s + m) p (and-right (leb p 65536) (leb (s + m) p) hp) in
+              let piece = leb-true (start + q) bits (and-left (leb (start + q) bits) (leb p maxBits && leb (s + m) p) h) in
+              let hp = and-right (leb (start + q) bits) (leb p maxBits && leb (s + m) p) h in
+              let p-most = leb-true p maxBits (and-left (leb p maxBits) (leb (s + m) p) hp) in
+              let s-most = leb-true (s + m) p (and-right (leb p maxBits) (leb (s + m) p) hp) in
               let ry = rule-is y bits f in
               let ra = rule-is a m g in
               let bits-most = ry .few in
@@ -405,6 +405,6 @@ module _ (y : List ℕ) (bits start q p s m k : ℕ) (a : List ℕ) where
       by-unless AnswerMost (anchorRange bits start q p s m) 8 (omega arith) (λ h.
       go (tested-ready e (and-left (stringRule y bits) (stringRule a m) f) (and-right (stringRule y bits) (stringRule a m) f) h .few) (place m k p s (range y start q) (range a 0 m)) (best-of y start q p s m k a 0))))
     where
-      go : start + q ≤ 65536 → (o : Option ℕ) → Best (fits m k p s (range y start q) (range a 0 m)) (away p q s) 0 (q + 1 - m) o → AnswerMost (value o)
+      go : start + q ≤ maxBits → (o : Option ℕ) → Best (fits m k p s (range y start q) (range a 0 m)) (away p q s) 0 (q + 1 - m) o → AnswerMost (value o)
       go few none b = tt
       go few (some r) b = let c = b .1 in omega arith

@@ -9,7 +9,7 @@ use native.Mathlib.Decide.{decLt}
 use lib.ListN.{length}
 use lib.Dec.{leb, ltb, eqb}
 use borrow.Author.Tests.{lt-leb, le-leb, leb-true, ltb-true, eqb-true}
-use Rattle.strings.specs.Bits.{range}
+use Rattle.strings.specs.Bits.{range, maxBits}
 use Rattle.strings.specs.StringRule.{stringRule}
 use Rattle.strings.specs.laws.RangeLaws.{range-length, range-part}
 use Rattle.strings.specs.laws.RuleLaws.{rule-is}
@@ -36,7 +36,7 @@ use Rattle.messages.specs.laws.WritingLaws.{put-fits, put-short}
 use Rattle.ends.specs.declared.Holder.{Holder}
 use Rattle.ends.specs.Anchors.{part}
 use Rattle.strings.specs.SettingLimits.{between}
-use Rattle.ends.specs.Soundness.{holderSound}
+use Rattle.ends.specs.Soundness.{holderSound, mostAnswers}
 use Rattle.ends.specs.HolderCall.{Heard, declines, sameBitCount, inTurn, sends, answersTo, ofKind, holderCall}
 use Rattle.ends.specs.declared.answering.HolderOut.{HolderOut}
 use Rattle.ends.specs.HolderOutcome.{HolderSaid, saidHolder, leavesHolder}
@@ -73,24 +73,23 @@ syndrome-few x start len =
 -- an unopened sound state has h 0
 sound-width : (st : Holder) → holderSound st ≡ true → st .h ≤ 32
 unfolding holderSound
-sound-width st e = go (eqb (st .opened) 0) e
+sound-width st e = go (st .opened) e
   where
     fresh : Bool
     fresh = eqb (st .key) 0 && eqb (st .answers) 0
 
     rest : Bool
-    rest = leb 1 (st .key) && between 1 (st .answers) 1000000
+    rest = leb 1 (st .key) && between 1 (st .answers) mostAnswers
 
-    go : (t : Bool) → cond t (eqb (st .bits) 0 && (eqb (st .h) 0 && fresh)) (eqb (st .opened) 1 && (leb (st .bits) 65536 && (between 8 (st .h) 32 && rest))) ≡ true → st .h ≤ 32
-    go true e = let z = eqb-true (st .h) 0 (and-left (eqb (st .h) 0) fresh (and-right (eqb (st .bits) 0) (eqb (st .h) 0 && fresh) e)) in omega arith
-    go false e =
-        let a = and-right (eqb (st .opened) 1) (leb (st .bits) 65536 && (between 8 (st .h) 32 && rest)) e in
-        let b = and-left (between 8 (st .h) 32) rest (and-right (leb (st .bits) 65536) (between 8 (st .h) 32 && rest) a) in
+    go : (t : Bool) → cond t (leb (st .bits) maxBits && (between 8 (st .h) 32 && rest)) (eqb (st .bits) 0 && (eqb (st .h) 0 && fresh)) ≡ true → st .h ≤ 32
+    go true e =
+        let b = and-left (between 8 (st .h) 32) rest (and-right (leb (st .bits) maxBits) (between 8 (st .h) 32 && rest) e) in
         leb-true (st .h) 32 (and-right (leb 8 (st .h)) (leb (st .h) 32) b)
+    go false e = let z = eqb-true (st .h) 0 (and-left (eqb (st .h) 0) fresh (and-right (eqb (st .bits) 0) (eqb (st .h) 0 && fresh) e)) in omega arith
 
 -- ---- the answers, for bits of X where they lie
 module _ (st : Holder) (x : List ℕ) (n : ℕ) where
-  pub able-few : Able st x n → n ≤ 65536
+  pub able-few : Able st x n → n ≤ maxBits
   able-few a = rule-is x n (a .string) .few
 
   pub ready-within : {q q′ : Question} → Ready st x n q → q ≡ q′ → Within n q′
@@ -141,11 +140,11 @@ module _ (st : Holder) (x : List ℕ) (n : ℕ) where
 
 -- ---- the call, test by test
 module _ (st : Holder) (x : List ℕ) (bits : ℕ) where
-  pub tests-able : stringRule x bits && sameBitCount st bits ≡ true → holderSound st && ltb (st .answers) 1000000 ≡ true → Able st x bits
+  pub tests-able : stringRule x bits && sameBitCount st bits ≡ true → holderSound st && ltb (st .answers) mostAnswers ≡ true → Able st x bits
   tests-able a b = record {
     string = and-left (stringRule x bits) (sameBitCount st bits) a;
-    sound = and-left (holderSound st) (ltb (st .answers) 1000000) b;
-    left = ltb-true (st .answers) 1000000 (and-right (holderSound st) (ltb (st .answers) 1000000) b);
+    sound = and-left (holderSound st) (ltb (st .answers) mostAnswers) b;
+    left = ltb-true (st .answers) mostAnswers (and-right (holderSound st) (ltb (st .answers) mostAnswers) b);
   }
 
   module _ (msg : List ℕ) (room : ℕ) where
@@ -153,11 +152,11 @@ module _ (st : Holder) (x : List ℕ) (bits : ℕ) where
     unfolding holderCall
     call-bad-string a = rw a refl
 
-    pub call-out-of-turn : stringRule x bits && sameBitCount st bits ≡ true → holderSound st && ltb (st .answers) 1000000 ≡ false → holderCall st x bits msg room ≡ declines OutOfTurn
+    pub call-out-of-turn : stringRule x bits && sameBitCount st bits ≡ true → holderSound st && ltb (st .answers) mostAnswers ≡ false → holderCall st x bits msg room ≡ declines OutOfTurn
     unfolding holderCall
     call-out-of-turn a b = rw (a, b) refl
 
-    pub call-kind : {k k′ : KindRead} → stringRule x bits && sameBitCount st bits ≡ true → holderSound st && ltb (st .answers) 1000000 ≡ true → k ≡ kindAt msg → k ≡ k′ → holderCall st x bits msg room ≡ ofKind st x bits msg room k′
+    pub call-kind : {k k′ : KindRead} → stringRule x bits && sameBitCount st bits ≡ true → holderSound st && ltb (st .answers) mostAnswers ≡ true → k ≡ kindAt msg → k ≡ k′ → holderCall st x bits msg room ≡ ofKind st x bits msg room k′
     unfolding holderCall
     call-kind a b e f = rw (a, b, ← e, f) refl
 

@@ -12,7 +12,7 @@ use Rattle.messages.specs.declared.WriteResult.{WriteResult}
 use Rattle.messages.specs.declared.WriteResult.the-variants.{Written, TooShort}
 use Rattle.messages.specs.laws.QuestionLaws.{Within}
 use Rattle.ends.specs.declared.Holder.{Holder}
-use Rattle.ends.specs.Soundness.{holderSound}
+use Rattle.ends.specs.Soundness.{holderSound, mostAnswers}
 use Rattle.ends.specs.declared.answering.HolderAnswer.the-variants.{Replied, Refused}
 use Rattle.ends.specs.declared.answering.HolderOut.{HolderOut}
 
@@ -28,7 +28,7 @@ written st next (Written size) = record { answer = Replied size; state = next }
 
 -- the state after the opening
 abbrev pub openedWith : (n h key : ℕ) → Holder
-openedWith n h key = record { opened = 1; bits = n; h = h; key = key; answers = 1 }
+openedWith n h key = record { opened = true; bits = n; h = h; key = key; answers = 1 }
 
 -- the state after another answer
 abbrev pub oneMore : Holder → Holder
@@ -39,13 +39,13 @@ oneMore st = record { opened = st .opened; bits = st .bits; h = st .h; key = st 
 pub record Answers (st : Holder) (x : List ℕ) (start len : ℕ) : Type 0 where
   pub part : Part x start len
   pub width : st .h ≤ 32
-  pub left : st .answers < 1000000
+  pub left : st .answers < mostAnswers
 
 -- what the tests before the message show
 pub record Able (st : Holder) (x : List ℕ) (n : ℕ) : Type 0 where
   pub string : stringRule x n ≡ true
   pub sound : holderSound st ≡ true
-  pub left : st .answers < 1000000
+  pub left : st .answers < mostAnswers
 
 -- and what the reader shows
 pub record Ready (st : Holder) (x : List ℕ) (n : ℕ) (q : Question) : Type 0 where

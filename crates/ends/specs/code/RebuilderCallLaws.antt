@@ -9,8 +9,8 @@ use native.Mathlib.Omega.{arith}
 use lib.ListN.{length, take, drop, length-drop}
 use lib.Seq.{take-all}
 use lib.Dec.{leb, eqb}
-use borrow.Author.Tests.{le-leb, lt-leb, leb-true, leb-false, eqb-true, eq-eqb, ne-eqb, eqb-false}
-use Rattle.strings.specs.laws.Tests.{by-test, and-left, and-right, true-false}
+use borrow.Author.Tests.{le-leb, lt-leb, leb-true, eqb-true}
+use Rattle.strings.specs.laws.Tests.{and-left, and-right, true-false}
 use Rattle.strings.specs.Bits.{range, writeBits, cleared, bytesFor, Part, atFront}
 use Rattle.strings.specs.StringRule.{stringRule}
 use Rattle.strings.specs.laws.RuleLaws.{rule-is}
@@ -25,7 +25,7 @@ use Rattle.messages.specs.declared.WriteResult.the-variants.{Written, TooShort}
 use Rattle.messages.specs.Writing.{leaves, putFront}
 use Rattle.messages.specs.laws.WritingLaws.{put-fits}
 use Rattle.messages.specs.declared.Question.{Question}
-use Rattle.messages.specs.declared.Question.the-variants.{AskOpen, AskHash, AskSyndrome, AskBits}
+use Rattle.messages.specs.declared.Question.the-variants.{AskOpen}
 use Rattle.messages.specs.declared.AnswerRead.{AnswerRead}
 use Rattle.messages.specs.declared.AnswerRead.the-variants.{IsSize, IsHash, IsSyndrome, IsBits, NoAnswer}
 use Rattle.messages.specs.Questions.{questionKind, questionBytes}
@@ -37,12 +37,15 @@ use Rattle.ends.specs.declared.How.the-variants.{ByBits}
 use Rattle.ends.specs.declared.Rebuilder.{Rebuilder}
 use Rattle.ends.specs.declared.SheetChange.the-variants.{NoRow, OneRow}
 use Rattle.strings.specs.SettingLimits.{withinLimits}
-use Rattle.ends.specs.Segments.{row}
+use Rattle.ends.specs.Segments.{row, asks}
 use Rattle.ends.specs.Runs.{sizeOf}
 use Rattle.ends.specs.laws.Shape.{Proper, Inside, sizes, size-bits}
 use Rattle.strings.specs.laws.SettingLaws.{limits-is}
-use Rattle.ends.specs.States.{top, planned, askFor}
-use Rattle.ends.specs.Soundness.{sound, stageFits, openingSound, phaseSound}
+use Rattle.strings.specs.SettingLimits.{Limits}
+use Rattle.ends.specs.laws.Right.{StageOk}
+use Rattle.ends.specs.laws.SoundLaws.{fits-stage}
+use Rattle.ends.specs.States.{top, planned}
+use Rattle.ends.specs.Soundness.{sound, openingSound, phaseSound}
 use Rattle.ends.specs.laws.SoundParts.{Framed, sound-is, phase-whole, OpeningIs, opening-is, WholeIs, whole-is, PiecesIs, top-is, ask-inside, PhaseOf, isOpening, isPieces, isWhole, phase-of}
 use Rattle.ends.specs.laws.SoundSteps.{fresh-sound, opening-sound, whole-sound}
 use Rattle.ends.specs.laws.Steps.{step-opening, step-whole}
@@ -53,8 +56,12 @@ use Rattle.ends.specs.declared.rebuilding.StartOut.{StartOut}
 use Rattle.ends.specs.code.StateCode.{Usable, Counts}
 use Rattle.ends.specs.code.SoundLaws.{sound-counts}
 use Rattle.ends.specs.RebuilderOutcome.{RebuilderSaid, saidRebuilder, leavesRebuilder, noRebuilder, saidStart, leavesStart}
-use Rattle.ends.specs.code.RebuilderParts.{OutIs, Acting, OneApart, oneLess, oneMore, stepTaken, Opening, WholeDue, BitsDue, dueLength, Due, answerRoom, heardStep, turnedDown}
+use Rattle.ends.specs.code.RebuilderParts.{OutIs, Acting, AsksBits, RepairDue, putsIn, takesOut, bitsOfStage, stepTaken, Opening, WholeDue, BitsDue, dueLength, Due, answerRoom, heardStep, turnedDown}
 use Rattle.ends.specs.code.RebuilderCodeLaws.{out-said, step-said, size-most, question-short}
+use Rattle.ends.specs.declared.Stage.{Stage}
+use Rattle.ends.specs.declared.Stage.the-variants.{Hashing, PuttingIn, TakingOut, Anchor, AllBits}
+use Rattle.ends.specs.declared.Phase.{Phase}
+use Rattle.ends.specs.declared.Phase.the-variants.{AtOpening, AtPieces, AtWhole}
 
 -- ---- the whole string
 module _ (st : Rebuilder) (size room : ℕ) (k : WholeDue st size room) where
@@ -80,8 +87,7 @@ module _ (st : Rebuilder) (size room : ℕ) (k : WholeDue st size room) where
   unfolding wholeStep
   whole-said g y bits buf {r} {buf′} {q} {q′} w o =
       let l = range bits 0 (st .n) in
-      let two = k .phase in
-      step-said st buf q (step-whole st y size (bitsAnswer l) (omega arith))
+      step-said st buf q (step-whole st y size (bitsAnswer l) (k .phase))
       (out-said st (wholeStep st size l) buf (subst (λ (z : Rebuilder). OutIs r z (OneRow (st .rows) (row 0 (st .n) ByBits)) q q′) g o) w)
 
 -- ---- the opening's answer
@@ -91,7 +97,7 @@ module _ (st : Rebuilder) (n room : ℕ) (k : Opening st n room) where
 
   opening-now : OpeningIs st
   opening-now =
-      let e : phaseSound st ≡ openingSound st = rw (eq-eqb (st .phase) 0 (k .phase)) refl in
+      let e : phaseSound st ≡ openingSound st = rw (k .phase) refl in
       opening-is st (sym e ∙ sound-is st (k .sound-now) .1)
 
   pub opening-ready : Usable (st .settings) × (st .answered < 4294967295)
@@ -108,31 +114,45 @@ module _ (st : Rebuilder) (n room : ℕ) (k : Opening st n room) where
       step-said st buf q (step-opening st y size (sizeAnswer n) (k .phase))
       (out-said st (openingStep st n) buf (subst (λ (z : Rebuilder). OutIs r z NoRow q q′) g o) w)
 
+-- ---- which phase it is
+pub pieces-opening : {ph : Phase} → ph ≡ AtPieces → ph ≡ AtOpening → ⊥
+pieces-opening e f = let z : _≡_ {A = ℕ} 0 1 = cc in omega arith
+
+pub whole-opening : {ph : Phase} → ph ≡ AtWhole → ph ≡ AtOpening → ⊥
+whole-opening e f = let z : _≡_ {A = ℕ} 0 1 = cc in omega arith
+
+pub whole-pieces : {ph : Phase} → ph ≡ AtWhole → ph ≡ AtPieces → ⊥
+whole-pieces e f = let z : _≡_ {A = ℕ} 0 1 = cc in omega arith
+
 -- ---- bits
 module _ (st : Rebuilder) (size room : ℕ) (k : BitsDue st size room) where
-  pub bits-whole : st .phase ≡ 2 → WholeDue st size room
+  pub bits-whole : st .phase ≡ AtWhole → WholeDue st size room
   bits-whole e = go (k .phases)
     where
-      go : (WholeDue st size room) ⊎ (Acting st size room × (0 < st .stage)) → WholeDue st size room
+      go : (WholeDue st size room) ⊎ (Acting st size room × AsksBits (st .stage)) → WholeDue st size room
       go (inl w) = w
-      go (inr a) = let f = a .0 .phase in absurd (omega arith)
+      go (inr a) = absurd (whole-pieces e (a .0 .phase))
 
-  pub bits-acting : (st .phase ≡ 2 → ⊥) → Acting st size room × (0 < st .stage)
+  pub bits-acting : st .phase ≡ AtPieces → Acting st size room × AsksBits (st .stage)
   bits-acting e = go (k .phases)
     where
-      go : (WholeDue st size room) ⊎ (Acting st size room × (0 < st .stage)) → Acting st size room × (0 < st .stage)
-      go (inl w) = absurd (e (w .phase))
+      go : (WholeDue st size room) ⊎ (Acting st size room × AsksBits (st .stage)) → Acting st size room × AsksBits (st .stage)
+      go (inl w) = absurd (whole-pieces (w .phase) e)
       go (inr a) = a
 
+  pub bits-opening : st .phase ≡ AtOpening → ⊥
+  bits-opening e = go (k .phases)
+    where
+      go : (WholeDue st size room) ⊎ (Acting st size room × AsksBits (st .stage)) → ⊥
+      go (inl w) = whole-opening (w .phase) e
+      go (inr a) = pieces-opening (a .0 .phase) e
+
 module _ (st : Rebuilder) where
-  pub due-whole : st .phase ≡ 2 → dueLength st ≡ st .n
-  due-whole e = rw (eq-eqb (st .phase) 2 e) refl
+  pub due-whole : st .phase ≡ AtWhole → dueLength st ≡ st .n
+  due-whole e = rw e refl
 
-  pub due-piece : (st .phase ≡ 2 → ⊥) → 4 ≤ st .stage → dueLength st ≡ top st .p
-  due-piece e h = rw (ne-eqb (st .phase) 2 e, le-leb 4 (st .stage) h) refl
-
-  pub due-anchor : (st .phase ≡ 2 → ⊥) → st .stage < 4 → dueLength st ≡ st .settings .m
-  due-anchor e h = rw (ne-eqb (st .phase) 2 e, lt-leb 4 (st .stage) h) refl
+  pub due-stage : st .phase ≡ AtPieces → dueLength st ≡ bitsOfStage st (st .stage)
+  due-stage e = rw e refl
 
   pub due-said : (y bits s q : List ℕ) (size : ℕ) {a b : ℕ} {x : RebuilderSaid} → b ≡ a
       → x ≡ leavesRebuilder st s q (stepTaken (stepOf st y size (bitsAnswer (range bits 0 a))))
@@ -142,45 +162,35 @@ module _ (st : Rebuilder) where
 -- ---- which phase and stage ask for a kind
 -- a question for the leftmost piece
 record ForPiece (st : Rebuilder) (q : Question) : Type 0 where
-  phase : st .phase ≡ 1
+  phase : st .phase ≡ AtPieces
   pieces : PiecesIs st
   some : 0 < st .waiting
-  asks : askFor (st .settings .m) (st .stage) (top st) ≡ q
+  asked : asks (st .settings) (top st .x) (top st .p) (st .stage) ≡ q
 
 -- what holds of a state whose question q is of a kind and for len bits
 abbrev KindDue : Rebuilder → Question → ℕ → Kind → Type 0
-KindDue st q len Open = st .phase ≡ 0
-KindDue st q len Hash = ForPiece st q × (st .stage ≡ 0) × (top st .q ≡ top st .p)
-KindDue st q len Syndrome = ForPiece st q × (st .stage ≡ 0) × (top st .q ≡ top st .p → ⊥)
-KindDue st q len Bits = (dueLength st ≡ len) × ((st .phase ≡ 2) ⊎ (ForPiece st q × (0 < st .stage)))
+KindDue st q len Open = st .phase ≡ AtOpening
+KindDue st q len Hash = ForPiece st q × (st .stage ≡ Hashing) × (top st .q ≡ top st .p)
+KindDue st q len Syndrome = ForPiece st q × RepairDue st
+KindDue st q len Bits = (dueLength st ≡ len) × ((st .phase ≡ AtWhole) ⊎ (ForPiece st q × AsksBits (st .stage)))
 
 abbrev AskDue : Rebuilder → (q x : Question) → Type 0
 AskDue st q x = KindDue st q (questionLength x) (questionKind x)
 
-piece-due : (st : Rebuilder) (q : Question) → ForPiece st q → AskDue st q (askFor (st .settings .m) (st .stage) (top st))
-unfolding askFor
-piece-due st q k =
-    let one = k .phase in
-    by-test (AskDue st q) (eqb (st .stage) 0)
-    (λ e. by-test (AskDue st q) (eqb (top st .q) (top st .p)) {a = AskHash (top st .x) (top st .p)} {b = AskSyndrome (top st .x) (top st .p)}
-    (λ f. (k, eqb-true (st .stage) 0 e, eqb-true (top st .q) (top st .p) f)) (λ f. (k, eqb-true (st .stage) 0 e, eqb-false (top st .q) (top st .p) f)))
-    (λ e. let n : st .stage ≡ 0 → ⊥ = eqb-false (st .stage) 0 e in
-    by-test (AskDue st q) (leb 4 (st .stage)) {a = AskBits (top st .x) (top st .p)}
-    (λ f. (due-piece st (λ z. omega arith) (leb-true 4 (st .stage) f), inr (k, omega arith))) (λ f. (due-anchor st (λ z. omega arith) (leb-false 4 (st .stage) f), inr (k, omega arith))))
-
-kind-due : (st : Rebuilder) (q : Question) → PhaseOf st q → AskDue st q q
-kind-due st q (isOpening p i e) = rw (← e) p
-kind-due st q (isPieces p i w e) = subst (AskDue st q) e (piece-due st q (record { phase = p; pieces = i; some = w; asks = e }))
-kind-due st q (isWhole p i e) = rw (← e) (due-whole st p, inl p)
-
-one-apart : (S : Settings) (p q j : ℕ) → stageFits S p q j ≡ true → j ≡ 0 → (q ≡ p → ⊥) → OneApart p q
-unfolding stageFits
-one-apart S p q j e z n = go (eqb q p) refl (eqb (q + 1) p) refl (rw z at e)
+piece-due : (st : Rebuilder) (q : Question) → Limits (st .settings) → ForPiece st q → AskDue st q (asks (st .settings) (top st .x) (top st .p) (st .stage))
+piece-due st q L k = go (st .stage) refl (fits-stage (st .settings) L (top st .p) (top st .q) (st .stage) (top-is st (k .pieces .stack) (k .some) .stage))
   where
-    go : (a : Bool) → eqb q p ≡ a → (b : Bool) → eqb (q + 1) p ≡ b → (a || (b || eqb q (p + 1))) ≡ true → OneApart p q
-    go true f b g e = absurd (n (eqb-true q p f))
-    go false f true g e = oneLess (eqb-true (q + 1) p g)
-    go false f false g e = oneMore (eqb-true q (p + 1) e)
+    go : (t : Stage) → st .stage ≡ t → StageOk (st .settings) (top st .p) (top st .q) t → AskDue st q (asks (st .settings) (top st .x) (top st .p) t)
+    go Hashing e o = (k, e, o)
+    go PuttingIn e o = (k, putsIn e o)
+    go TakingOut e o = (k, takesOut e o)
+    go (Anchor i) e o = (due-stage st (k .phase) ∙ rw e refl, inr (k, rw e tt))
+    go AllBits e o = (due-stage st (k .phase) ∙ rw e refl, inr (k, rw e tt))
+
+kind-due : (st : Rebuilder) (q : Question) → Limits (st .settings) → PhaseOf st q → AskDue st q q
+kind-due st q L (isOpening p i e) = rw (← e) p
+kind-due st q L (isPieces p i w e) = subst (AskDue st q) e (piece-due st q L (record { phase = p; pieces = i; some = w; asked = e }))
+kind-due st q L (isWhole p i e) = rw (← e) (due-whole st p, inl p)
 
 -- ---- lent room
 pub room-bits : (n k : ℕ) → bytesFor n ≤ k → n ≤ 8 * k
@@ -205,7 +215,7 @@ module _ (st : Rebuilder) (msg : List ℕ) (len : ℕ) (read : AnswerRead) (d : 
     proper-now = answer-form (questionKind (d .question)) (questionLength (d .question)) (st .settings .h) msg a read-value .proper
 
     kind-now : KindDue st (d .question) (questionLength (d .question)) (answerKind a)
-    kind-now = rw (proper-now .of-kind) (kind-due st (d .question) (phase-of st (d .question) (sound-is st (d .sound-now) .1) (d .asked)))
+    kind-now = rw (proper-now .of-kind) (kind-due st (d .question) (framed-now .limits) (phase-of st (d .question) (sound-is st (d .sound-now) .1) (d .asked)))
 
     size-now : length msg ≡ sizeOf a
     unfolding sizeOf
@@ -215,7 +225,7 @@ module _ (st : Rebuilder) (msg : List ℕ) (len : ℕ) (read : AnswerRead) (d : 
     piece-acting : ForPiece st (d .question) → (room : ℕ) → 8 ≤ room → Acting st (length msg) room
     piece-acting k room h =
         let ti = top-is st (k .pieces .stack) (k .some) in
-        let ins : Inside (st .n) (d .question) = rw (k .asks) at (ask-inside st (framed-now .limits) ti) in
+        let ins : Inside (st .n) (d .question) = rw (k .asked) at (ask-inside st (framed-now .limits) ti) in
         let sh = sizes (st .settings) (st .n) (framed-now .size) (d .question) a ins proper-now in
         let z = size-now in
         record { sound-now = d .sound-now; array = d .array; phase = k .phase; some = k .some; short = omega arith; enough = h }
@@ -225,31 +235,30 @@ module _ (st : Rebuilder) (msg : List ℕ) (len : ℕ) (read : AnswerRead) (d : 
       let v = ap (answerValue msg len) f in
       record { sound-now = d .sound-now; array = d .array; phase = kind-now (sizeAnswer n) v; small = proper-now (sizeAnswer n) v .values; enough = h }
 
-  pub heard-hash : (v : ℕ) → read ≡ IsHash v → (room : ℕ) → 8 ≤ room → Acting st (length msg) room × ((st .stage ≡ 0) × (top st .q ≡ top st .p))
+  pub heard-hash : (v : ℕ) → read ≡ IsHash v → (room : ℕ) → 8 ≤ room → Acting st (length msg) room × ((st .stage ≡ Hashing) × (top st .q ≡ top st .p))
   heard-hash v f room h =
       let w = ap (answerValue msg len) f in
       let k = kind-now (hashAnswer v) w in
       (piece-acting (hashAnswer v) w (k .0) room h, (k .1, k .2))
 
-  pub heard-syndrome : (a v : ℕ) → read ≡ IsSyndrome a v → (room : ℕ) → 8 ≤ room → Acting st (length msg) room × ((st .stage ≡ 0) × OneApart (top st .p) (top st .q))
+  pub heard-syndrome : (a v : ℕ) → read ≡ IsSyndrome a v → (room : ℕ) → 8 ≤ room → Acting st (length msg) room × RepairDue st
   heard-syndrome a v f room h =
       let w = ap (answerValue msg len) f in
       let k = kind-now (syndromeAnswer a v) w in
-      let t = top-is st (k .0 .pieces .stack) (k .0 .some) in
-      (piece-acting (syndromeAnswer a v) w (k .0) room h, (k .1, one-apart (st .settings) (top st .p) (top st .q) (st .stage) (t .stage) (k .1) (k .2)))
+      (piece-acting (syndromeAnswer a v) w (k .0) room h, k .1)
 
   -- the bits that were read
   module _ (at : ℕ) (f : read ≡ IsBits at) where
     abbrev bitsHeard : Answer
     bitsHeard = bitsAnswer (range msg (8 * at) len)
 
-    bits-due : (dueLength st ≡ len) × ((st .phase ≡ 2) ⊎ (ForPiece st (d .question) × (0 < st .stage)))
+    bits-due : (dueLength st ≡ len) × ((st .phase ≡ AtWhole) ⊎ (ForPiece st (d .question) × AsksBits (st .stage)))
     bits-due = rw (d .asked-length) (kind-now bitsHeard (ap (answerValue msg len) f))
 
     pub heard-bits : (room : ℕ) → 8 ≤ room → BitsDue st (length msg) room × (dueLength st ≡ len)
     heard-bits room h = (record { phases = go (bits-due .1) }, bits-due .0)
       where
-        go : (st .phase ≡ 2) ⊎ (ForPiece st (d .question) × (0 < st .stage)) → (WholeDue st (length msg) room) ⊎ (Acting st (length msg) room × (0 < st .stage))
+        go : (st .phase ≡ AtWhole) ⊎ (ForPiece st (d .question) × AsksBits (st .stage)) → (WholeDue st (length msg) room) ⊎ (Acting st (length msg) room × AsksBits (st .stage))
         go (inl p) =
             let e : st .n ≡ len = sym (due-whole st p) ∙ bits-due .0 in
             let r = range-length msg (8 * at) len in
@@ -290,40 +299,44 @@ module _ (st : Rebuilder) (msg : List ℕ) (len : ℕ) (read : AnswerRead) (d : 
       read-said f y s q (g ∙ ap (λ (l : List Bool). leavesRebuilder st s q (stepTaken (stepOf st y (length msg) (bitsAnswer l)))) r)
 
   -- ---- in lent room
-  opening-phase : (n : ℕ) → read ≡ IsSize n → st .phase ≡ 0
-  opening-phase n f = heard-size n f 8 (omega arith) .phase
+  -- the bits that the call counts its buffers by
+  size-known : (n : ℕ) → read ≡ IsSize n → bitsKnown st (sizeAnswer n) ≡ n
+  size-known n f = rw (heard-size n f 8 (omega arith) .phase) refl
 
-  hash-phase : (v : ℕ) → read ≡ IsHash v → st .phase ≡ 0 → ⊥
-  hash-phase v f z = let p = heard-hash v f 8 (omega arith) .0 .phase in omega arith
+  later-known : {size room : ℕ} (a : Answer) → Acting st size room → bitsKnown st a ≡ st .n
+  later-known a k = rw (k .phase) refl
 
-  syndrome-phase : (a v : ℕ) → read ≡ IsSyndrome a v → st .phase ≡ 0 → ⊥
-  syndrome-phase a v f z = let p = heard-syndrome a v f 8 (omega arith) .0 .phase in omega arith
+  hash-known : (v : ℕ) → read ≡ IsHash v → bitsKnown st (hashAnswer v) ≡ st .n
+  hash-known v f = later-known (hashAnswer v) (heard-hash v f 8 (omega arith) .0)
 
-  bits-phase : (at : ℕ) → read ≡ IsBits at → st .phase ≡ 0 → ⊥
-  bits-phase at f z = go (heard-bits at f 8 (omega arith) .0 .phases)
+  syndrome-known : (a v : ℕ) → read ≡ IsSyndrome a v → bitsKnown st (syndromeAnswer a v) ≡ st .n
+  syndrome-known a v f = later-known (syndromeAnswer a v) (heard-syndrome a v f 8 (omega arith) .0)
+
+  bits-known : (at : ℕ) (l : List Bool) → read ≡ IsBits at → bitsKnown st (bitsAnswer l) ≡ st .n
+  bits-known at l f = go (heard-bits at f 8 (omega arith) .0 .phases)
     where
-      go : (WholeDue st (length msg) 8) ⊎ (Acting st (length msg) 8 × (0 < st .stage)) → ⊥
-      go (inl w) = let p = w .phase in omega arith
-      go (inr a) = let p = a .0 .phase in omega arith
+      go : (WholeDue st (length msg) 8) ⊎ (Acting st (length msg) 8 × AsksBits (st .stage)) → bitsKnown st (bitsAnswer l) ≡ st .n
+      go (inl w) = rw (w .phase) refl
+      go (inr a) = later-known (bitsAnswer l) (a .0)
 
   pub hears-short : (y : List ℕ) (r : Rooms) → answerRoom st r read ≡ false → hears st y msg r len read ≡ refuses BufferTooShort
   hears-short y r e = go read refl e
     where
       go : (x : AnswerRead) → read ≡ x → answerRoom st r x ≡ false → hears st y msg r len x ≡ refuses BufferTooShort
-      go (IsSize n) f e = rw (eq-eqb (st .phase) 0 (opening-phase n f), e) refl
-      go (IsHash v) f e = rw (ne-eqb (st .phase) 0 (hash-phase v f), e) refl
-      go (IsSyndrome a v) f e = rw (ne-eqb (st .phase) 0 (syndrome-phase a v f), e) refl
-      go (IsBits at) f e = rw (ne-eqb (st .phase) 0 (bits-phase at f), e) refl
+      go (IsSize n) f e = rw (size-known n f, e) refl
+      go (IsHash v) f e = rw (hash-known v f, e) refl
+      go (IsSyndrome a v) f e = rw (syndrome-known a v f, e) refl
+      go (IsBits at) f e = rw (bits-known at (range msg (8 * at) len) f, e) refl
       go (NoAnswer x) f e = absurd (true-false e)
 
   pub hears-long : (y : List ℕ) (r : Rooms) → answerRoom st r read ≡ true → hears st y msg r len read ≡ heardStep st y msg len read
   hears-long y r e = go read refl e
     where
       go : (x : AnswerRead) → read ≡ x → answerRoom st r x ≡ true → hears st y msg r len x ≡ heardStep st y msg len x
-      go (IsSize n) f e = rw (eq-eqb (st .phase) 0 (opening-phase n f), e) refl
-      go (IsHash v) f e = rw (ne-eqb (st .phase) 0 (hash-phase v f), e) refl
-      go (IsSyndrome a v) f e = rw (ne-eqb (st .phase) 0 (syndrome-phase a v f), e) refl
-      go (IsBits at) f e = rw (ne-eqb (st .phase) 0 (bits-phase at f), e) refl
+      go (IsSize n) f e = rw (size-known n f, e) refl
+      go (IsHash v) f e = rw (hash-known v f, e) refl
+      go (IsSyndrome a v) f e = rw (syndrome-known a v f, e) refl
+      go (IsBits at) f e = rw (bits-known at (range msg (8 * at) len) f, e) refl
       go (NoAnswer x) f e = refl
 
   pub enough-for : (r : Rooms) → answerRoom st r read ≡ true → {b : AnswerRead} → read ≡ b → answerRoom st r b ≡ true
@@ -332,7 +345,7 @@ module _ (st : Rebuilder) (msg : List ℕ) (len : ℕ) (read : AnswerRead) (d : 
 pub whole-small : (st : Rebuilder) (size room : ℕ) → BitsDue st size room → size < 4294967296
 whole-small st size room k = go (k .phases)
   where
-    go : (WholeDue st size room) ⊎ (Acting st size room × (0 < st .stage)) → size < 4294967296
+    go : (WholeDue st size room) ⊎ (Acting st size room × AsksBits (st .stage)) → size < 4294967296
     go (inl w) = let s = w .short in let n = sound-is st (w .sound-now) .0 .size in omega arith
     go (inr a) = let s = size-most st size room (a .0) in omega arith
 

@@ -4,13 +4,12 @@ use mathlib.Core.Bool.{Bool, true, false}
 use mathlib.Core.Logic.{inl, inr}
 use mathlib.Core.List.{List, [], _∷_}
 use mathlib.Core.Option.{Option, none, some}
-use Prim.Native.Nat.{ℕ, zero, suc, _+_, _-_, _*_, max, _≤_, _<_}
+use Prim.Native.Nat.{ℕ, _+_, _-_, _*_, max, _≤_, _<_}
 use native.Mathlib.Omega.{arith}
 use lib.ListN.{length}
-use lib.Dec.{leb, eqb, lit≤}
+use lib.Dec.{eqb, lit≤}
 use borrow.Author.Tests.{eq-eqb, ne-eqb}
-use Rattle.strings.specs.laws.Tests.{by-test}
-use Rattle.strings.specs.Bits.{range, writeBits, Part, atFront}
+use Rattle.strings.specs.Bits.{range, writeBits, Part, atFront, maxBits}
 use Rattle.strings.specs.laws.RangeLaws.{range-length}
 use Rattle.codes.specs.declared.edits.Edit.{Edit}
 use Rattle.codes.specs.declared.edits.Edit.the-variants.{Keep}
@@ -22,7 +21,7 @@ use Rattle.codes.specs.code.Edits.{edited, Fits, Editable, repairEdit}
 use Rattle.codes.specs.laws.RepairLaws.{repair-put-in, repair-take-out}
 use Rattle.codes.specs.laws.EditLaws.{repair-found, repair-nothing, repair-fits}
 use Rattle.messages.specs.declared.Question.{Question}
-use Rattle.messages.specs.declared.Question.the-variants.{AskHash, AskSyndrome, AskBits}
+use Rattle.messages.specs.declared.Question.the-variants.{AskBits}
 use Rattle.messages.specs.declared.WriteResult.{WriteResult}
 use Rattle.messages.specs.declared.WriteResult.the-variants.{Written, TooShort}
 use Rattle.messages.specs.Questions.{questionBytes}
@@ -31,7 +30,6 @@ use Rattle.codes.specs.Entries.{Answer as Outcome, value}
 use Rattle.messages.specs.Answers.{Answer, hashAnswer, syndromeAnswer, bitsAnswer}
 use Rattle.messages.specs.Writing.{leaves, putFront}
 use Rattle.messages.specs.laws.WritingLaws.{put-fits}
-use Rattle.strings.specs.declared.settings.Settings.{Settings}
 use Rattle.ends.specs.declared.How.{How}
 use Rattle.ends.specs.declared.How.the-variants.{ByHash, ByAnchor, ByBits}
 use Rattle.ends.specs.declared.Piece.{Piece}
@@ -39,18 +37,17 @@ use Rattle.ends.specs.declared.Rebuilder.{Rebuilder}
 use Rattle.ends.specs.declared.SheetChange.{SheetChange}
 use Rattle.ends.specs.declared.SheetChange.the-variants.{NoRow, AddRow}
 use Rattle.ends.specs.laws.Moves.{moved-effect}
-use Rattle.ends.specs.Segments.{Stage, placed, middle, laterStage, hashing, anchors, Effect, settles, stays, splits, effect, trialOf, retry, hashOf, row, howNumber}
-use Rattle.ends.specs.laws.Right.{Fit}
-use Rattle.ends.specs.States.{top, popped, restaged, retried, splitAt, planned, askFor, anchorOffset}
-use Rattle.ends.specs.Soundness.{sound, stageFits}
-use Rattle.ends.specs.laws.SoundLaws.{fits-stage}
-use Rattle.ends.specs.laws.SoundParts.{stage-big, Framed, sound-is, PiecesIs, pieces-is, phase-pieces, TopIs, top-is, ask-inside, PhaseOf, isOpening, isPieces, isWhole, phase-of, offset-within}
+use Rattle.ends.specs.Segments.{Stage, placed, laterStage, settles, stays, splits, effect, trialOf, retry, hashOf, row, howNumber, afterAnchor, asks}
+use Rattle.ends.specs.laws.Right.{Fit, Long, offset-fits}
+use Rattle.ends.specs.States.{top, popped, restaged, retried, splitAt, planned}
+use Rattle.ends.specs.Soundness.{sound, asksBefore}
+use Rattle.ends.specs.laws.SoundParts.{stage-long, Framed, sound-is, PiecesIs, pieces-is, phase-pieces, TopIs, top-is, ask-inside, PhaseOf, isOpening, isPieces, isWhole, phase-of}
 use Rattle.ends.specs.laws.SoundSteps.{tallied-sound, effect-tally}
-use Rattle.ends.specs.laws.Delivery.{NotOpen, inside-range}
+use Rattle.ends.specs.laws.Delivery.{asks-not-open, inside-range}
 use Rattle.ends.specs.Anchors.{place, Best, fits as anchorFits, away}
 use Rattle.ends.specs.laws.AnchorLaws.{place-best}
 use Rattle.ends.specs.laws.Steps.{step-pieces}
-use Rattle.ends.specs.RebuilderCall.{tallied, Step, effectStep, stepOf, stringAfter, writtenQuestion, numberedStage}
+use Rattle.ends.specs.RebuilderCall.{tallied, Step, effectStep, stepOf, stringAfter, writtenQuestion}
 use Rattle.ends.specs.declared.anchors.Place.{Place}
 use Rattle.ends.specs.declared.anchors.Place.the-variants.{At, Nowhere}
 use Rattle.ends.specs.AnchorSearch.{placeIn}
@@ -63,20 +60,17 @@ use Rattle.ends.specs.declared.rebuilding.RebuilderOut.{RebuilderOut}
 use Rattle.ends.specs.code.StateCode.{Usable, Holds, Stages, Retries, Splits, Counts, Offsets, planOf}
 use Rattle.ends.specs.code.SoundLaws.{sound-counts}
 use Rattle.ends.specs.RebuilderOutcome.{callSaid, nextSize, RebuilderSaid, saidRebuilder, leavesRebuilder}
-use Rattle.ends.specs.code.RebuilderParts.{nextAnswer, OutIs, Acting, Splitting, stepTaken, trialStep, OneApart, oneLess, oneMore, repairHow}
+use Rattle.ends.specs.code.RebuilderParts.{nextAnswer, OutIs, Acting, Splitting, stepTaken, trialStep, Retriable, RepairDue, putsIn, takesOut, repairHow}
+use Rattle.ends.specs.declared.Stage.the-variants.{Hashing, PuttingIn, TakingOut, Anchor, AllBits}
+use Rattle.ends.specs.declared.Attempt.{Attempt}
+use Rattle.ends.specs.declared.Attempt.the-variants.{First, Second, Third}
+use Rattle.ends.specs.declared.Phase.the-variants.{AtPieces}
 
 -- ---- the question that a sound state writes
-not-open : (m j : ℕ) (t : Piece) → NotOpen (askFor m j t)
-unfolding askFor
-not-open m j t =
-    by-test NotOpen (eqb j 0)
-    (λ e. by-test NotOpen (eqb (t .q) (t .p)) {a = AskHash (t .x) (t .p)} {b = AskSyndrome (t .x) (t .p)} (λ f. tt) (λ f. tt))
-    (λ e. by-test NotOpen (leb 4 j) {a = AskBits (t .x) (t .p)} {b = AskBits (t .x + anchorOffset m (t .p) j) m} (λ f. tt) (λ f. tt))
-
-pub question-range : (s : Rebuilder) (q : Question) → sound s ≡ true → planned s ≡ some q → InRange (max 1 (s .n)) q × (s .n ≤ 65536)
+pub question-range : (s : Rebuilder) (q : Question) → sound s ≡ true → planned s ≡ some q → InRange (max 1 (s .n)) q × (s .n ≤ maxBits)
 question-range s q e k = let f = sound-is s e in go (f .0) (phase-of s q (f .1) k)
   where
-    go : Framed s → PhaseOf s q → InRange (max 1 (s .n)) q × (s .n ≤ 65536)
+    go : Framed s → PhaseOf s q → InRange (max 1 (s .n)) q × (s .n ≤ maxBits)
     go f (isOpening p i d) =
         let L = f .limits in
         (rw (← d) record { within = record { h-least = L .h-least; h-most = L .h-most; key-least = L .key-least }; key-most = L .key-most }, f .size)
@@ -85,7 +79,7 @@ question-range s q e k = let f = sound-is s e in go (f .0) (phase-of s q (f .1) 
         let ins = ask-inside s (f .limits) t in
         let a = t .some in let b = t .inX in
         let e : max 1 (s .n) ≡ s .n = omega arith in
-        (rw (← d) (rw e (inside-range (s .n) (askFor (s .settings .m) (s .stage) (top s)) (not-open (s .settings .m) (s .stage) (top s)) ins)), f .size)
+        (rw (← d) (rw e (inside-range (s .n) (asks (s .settings) (top s .x) (top s .p) (s .stage)) (asks-not-open (s .settings) (top s .x) (top s .p) (s .stage)) ins)), f .size)
     go f (isWhole p i d) =
         let t = top-is s (i .stack) (i .some) in
         let a = t .some in let b = t .inX in
@@ -139,6 +133,19 @@ module _ (s : Rebuilder) (k : SheetChange) (buf : List ℕ) (e : sound s ≡ tru
           question = b ∙ sym (ap (λ (o : Option Question). atFront (writtenQuestion o) buf) n);
         }
 
+-- ---- stages before that of all bits
+retriable-low : (t : Stage) → Retriable t → asksBefore t < 4
+retriable-low Hashing h = lit≤ tt
+retriable-low PuttingIn h = lit≤ tt
+retriable-low TakingOut h = lit≤ tt
+retriable-low (Anchor First) h = lit≤ tt
+retriable-low (Anchor Second) h = lit≤ tt
+retriable-low (Anchor Third) h = lit≤ tt
+retriable-low AllBits h = absurd h
+
+before-last : (i : Attempt) → asksBefore (Anchor i) < 4
+before-last i = retriable-low (Anchor i) tt
+
 -- ---- what is known of a state that takes an answer for its leftmost piece
 module _ (st : Rebuilder) (size room : ℕ) (k : Acting st size room) where
   pub framed : Framed st
@@ -160,8 +167,8 @@ module _ (st : Rebuilder) (size room : ℕ) (k : Acting st size room) where
   unfolding popped
   popped-stages = let f = framed .few in record { usable = usable; few = omega arith }
 
-  pub retries : st .stage < 4 → Retries st
-  retries h = record { usable = usable; some = k .some; few = framed .few; early = h }
+  pub retries : Retries st
+  retries = record { usable = usable; some = k .some; few = framed .few }
 
   pub size-most : size ≤ 8194
   size-most = let s = k .short in let n = framed .size in omega arith
@@ -187,31 +194,26 @@ module _ (st : Rebuilder) (size room : ℕ) (k : Acting st size room) where
   pub settled-sound : sound (tallied (restaged (popped st)) size 1) ≡ true
   settled-sound =
       tallied-sound (restaged (popped st)) size 1
-      (effect-tally st (k .array) framed pieces (k .some) few size (k .short) some-copy hashing (settles ByHash []) (range-length [] 0 (top st .q)) tt tt tt)
+      (effect-tally st (k .array) framed pieces (k .some) few size (k .short) some-copy Hashing (settles ByHash []) (range-length [] 0 (top st .q)) tt tt tt)
 
-  pub retried-sound : st .stage < 4 → sound (tallied (retried st) size 0) ≡ true
+  pub retried-sound : Retriable (st .stage) → sound (tallied (retried st) size 0) ≡ true
   retried-sound h =
       tallied-sound (retried st) size 0
-      (effect-tally st (k .array) framed pieces (k .some) few size (k .short) some-copy hashing (stays (anchors [])) (range-length [] 0 (top st .q)) (lit≤ tt) tt h)
+      (effect-tally st (k .array) framed pieces (k .some) few size (k .short) some-copy Hashing (stays AllBits) (range-length [] 0 (top st .q)) (lit≤ tt) tt (retriable-low (st .stage) h))
 
   module _ (s r : ℕ) (g : Splitting st s r) where
     fit : Fit (st .settings) (top st .p) s
-    unfolding anchorOffset
-    fit = rw (g .offset) (offset-fit (st .stage) (g .later) (g .early) (topped .stage))
-      where
-        offset-fit : (j : ℕ) → 0 < j → j < 4 → stageFits (st .settings) (top st .p) (top st .q) j ≡ true → Fit (st .settings) (top st .p) (anchorOffset (st .settings .m) (top st .p) j)
-        offset-fit zero a b e = absurd (omega arith)
-        offset-fit (suc zero) a b e = fits-stage (st .settings) (framed .limits) (top st .p) (top st .q) 1 e .0
-        offset-fit (suc (suc zero)) a b e = fits-stage (st .settings) (framed .limits) (top st .p) (top st .q) 2 e .0
-        offset-fit (suc (suc (suc zero))) a b e = fits-stage (st .settings) (framed .limits) (top st .p) (top st .q) 3 e .0
-        offset-fit (suc (suc (suc (suc j)))) a b e = absurd (omega arith)
+    fit = rw (g .at) (offset-fits (st .settings) (framed .limits) (top st .p) (g .attempt) (stage-long (st .settings) (framed .limits) (top st .p) (top st .q) (st .stage) (topped .stage) (g .attempt) (g .stage)))
+
+    low : asksBefore (st .stage) < 4
+    low = rw (g .stage) (before-last (g .attempt))
 
     pub split-sound : sound (tallied (splitAt st s r) size 1) ≡ true
     split-sound =
         let q = range-length [] 0 (top st .q) in
         let p = g .placed in
         tallied-sound (splitAt st s r) size 1
-        (effect-tally st (k .array) framed pieces (k .some) few size (k .short) some-copy hashing (splits s r []) q (fit, lit≤ tt) (omega arith) (g .early))
+        (effect-tally st (k .array) framed pieces (k .some) few size (k .short) some-copy Hashing (splits s r []) q (fit, lit≤ tt) (omega arith) low)
 
     pub split-counts : Counts (splitAt st s r) size 1
     split-counts =
@@ -321,37 +323,19 @@ module _ (st : Rebuilder) (size room : ℕ) (k : Acting st size room) {t : Piece
   pub anchor-part : (bits : List ℕ) → st .settings .m ≤ 8 * length bits → Part bits 0 (st .settings .m)
   anchor-part bits h = let m = framed st size room k .limits .m-most in record { there = omega arith; few = omega arith }
 
--- an anchor that is placed splits, one that is not leaves the piece at the stage t
-abbrev pub placedOr : ℕ → List Bool → Stage → Option ℕ → Effect
-placedOr s b t none = stays t
-placedOr s b t (some r) = splits s r b
-
-placed-or : (s : ℕ) (b : List Bool) (l : List ℕ) (o : Option ℕ) → placed s b l o ≡ placedOr s b (anchors l) o
-placed-or s b l none = refl
-placed-or s b l (some r) = refl
-
-stage-anchor : (S : Settings) (b : List Bool) (p q : ℕ) (ys : List Bool) (j : ℕ) → 0 < j → j < 4
-    → (t : Stage) × (effect S (bitsAnswer b) p ys (numberedStage S p q j) ≡ placedOr (anchorOffset (S .m) p j) b t (place (S .m) (S .k) p (anchorOffset (S .m) p j) ys b))
-unfolding effect anchorOffset
-stage-anchor S b p q ys zero h k = absurd (omega arith)
-stage-anchor S b p q ys (suc zero) h k = (_, placed-or (middle (S .m) p) b ((middle (S .m) p + S .m) ∷ (middle (S .m) p - S .m) ∷ []) (place (S .m) (S .k) p (middle (S .m) p) ys b))
-stage-anchor S b p q ys (suc (suc zero)) h k = (_, placed-or (middle (S .m) p + S .m) b ((middle (S .m) p - S .m) ∷ []) (place (S .m) (S .k) p (middle (S .m) p + S .m) ys b))
-stage-anchor S b p q ys (suc (suc (suc zero))) h k = (_, placed-or (middle (S .m) p - S .m) b [] (place (S .m) (S .k) p (middle (S .m) p - S .m) ys b))
-stage-anchor S b p q ys (suc (suc (suc (suc j)))) h k = absurd (omega arith)
-
 -- ---- which effect an answer has
-module _ (st : Rebuilder) (y : List ℕ) (size : ℕ) (ph : st .phase ≡ 1) where
+module _ (st : Rebuilder) (y : List ℕ) (size : ℕ) (ph : st .phase ≡ AtPieces) where
   abbrev copy : List Bool
   copy = range y (top st .y) (top st .q)
 
-  at-stage : (a : Answer) (j : ℕ) → st .stage ≡ j → stepOf st y size a ≡ effectStep st size (effect (st .settings) a (top st .p) copy (numberedStage (st .settings) (top st .p) (top st .q) j))
-  at-stage a j e = step-pieces st y size a ph ∙ ap (λ (i : ℕ). effectStep st size (effect (st .settings) a (top st .p) copy (numberedStage (st .settings) (top st .p) (top st .q) i))) e
+  at-stage : (a : Answer) (t : Stage) → st .stage ≡ t → stepOf st y size a ≡ effectStep st size (effect (st .settings) a (top st .p) copy t)
+  at-stage a t e = step-pieces st y size a ph ∙ ap (λ (u : Stage). effectStep st size (effect (st .settings) a (top st .p) copy u)) e
 
-  pub step-hash : (v : ℕ) → st .stage ≡ 0 → top st .q ≡ top st .p → stepOf st y size (hashAnswer v) ≡ trialStep st y size v ByHash Keep
+  pub step-hash : (v : ℕ) → st .stage ≡ Hashing → stepOf st y size (hashAnswer v) ≡ trialStep st y size v ByHash Keep
   unfolding effect
-  step-hash v e f = at-stage (hashAnswer v) 0 e ∙ rw (eq-eqb (top st .q) (top st .p) f) refl
+  step-hash v e = at-stage (hashAnswer v) Hashing e
 
-  module _ (a v : ℕ) (e : st .stage ≡ 0) {r : Repair} (rp : r ≡ repairEdit (top st .p) a copy) where
+  module _ (a v : ℕ) {r : Repair} (rp : r ≡ repairEdit (top st .p) a copy) where
     len : length copy ≡ top st .q
     len = range-length y (top st .y) (top st .q)
 
@@ -362,64 +346,48 @@ module _ (st : Rebuilder) (y : List ℕ) (size : ℕ) (ph : st .phase ≡ 1) whe
     repaired-take h = let l = len in repair-take-out (top st .p) a copy (λ z. omega arith)
 
     -- the effect is a trial of the repair, if there is one
-    repair-step : OneApart (top st .p) (top st .q)
+    repair-step : RepairDue st
         → stepOf st y size (syndromeAnswer a v) ≡ effectStep st size (trialOf (st .settings) v (repairHow (top st .p) (top st .q)) (repairTo (top st .p) a copy) (retry (st .settings) (top st .p) copy))
     unfolding effect repairHow
-    repair-step (oneLess h) =
-        at-stage (syndromeAnswer a v) 0 e
-        ∙ rw (ne-eqb (top st .q) (top st .p) (λ z. omega arith), eq-eqb (top st .q + 1) (top st .p) h, repaired-put h) refl
-    repair-step (oneMore h) =
-        at-stage (syndromeAnswer a v) 0 e
-        ∙ rw (ne-eqb (top st .q) (top st .p) (λ z. omega arith), ne-eqb (top st .q + 1) (top st .p) (λ z. omega arith), repaired-take h) refl
+    repair-step (putsIn e h) = at-stage (syndromeAnswer a v) PuttingIn e ∙ rw (eq-eqb (top st .q + 1) (top st .p) h, repaired-put h) refl
+    repair-step (takesOut e h) = at-stage (syndromeAnswer a v) TakingOut e ∙ rw (ne-eqb (top st .q + 1) (top st .p) (λ z. omega arith), repaired-take h) refl
 
-    pub syndrome-found : OneApart (top st .p) (top st .q) → {d : Edit} → r ≡ Found d → stepOf st y size (syndromeAnswer a v) ≡ trialStep st y size v (repairHow (top st .p) (top st .q)) d
+    pub syndrome-found : RepairDue st → {d : Edit} → r ≡ Found d → stepOf st y size (syndromeAnswer a v) ≡ trialStep st y size v (repairHow (top st .p) (top st .q)) d
     syndrome-found o {d} f = repair-step o ∙ rw (repair-found (top st .p) a copy r d rp f) refl
 
-    pub syndrome-nothing : OneApart (top st .p) (top st .q) → r ≡ Nothing → stepOf st y size (syndromeAnswer a v) ≡ effectStep st size (retry (st .settings) (top st .p) copy)
+    pub syndrome-nothing : RepairDue st → r ≡ Nothing → stepOf st y size (syndromeAnswer a v) ≡ effectStep st size (retry (st .settings) (top st .p) copy)
     syndrome-nothing o f = repair-step o ∙ rw (repair-nothing (top st .p) a copy r rp f) refl
 
-    pub syndrome-fits : OneApart (top st .p) (top st .q) → {d : Edit} → r ≡ Found d → Fits d (top st .q) (top st .p)
-    syndrome-fits (oneLess h) {d} f = repair-fits a copy (top st .q) len (top st .p) (inl h) d (sym rp ∙ f)
-    syndrome-fits (oneMore h) {d} f = repair-fits a copy (top st .q) len (top st .p) (inr h) d (sym rp ∙ f)
+    pub syndrome-fits : RepairDue st → {d : Edit} → r ≡ Found d → Fits d (top st .q) (top st .p)
+    syndrome-fits (putsIn e h) {d} f = repair-fits a copy (top st .q) len (top st .p) (inl h) d (sym rp ∙ f)
+    syndrome-fits (takesOut e h) {d} f = repair-fits a copy (top st .q) len (top st .p) (inr h) d (sym rp ∙ f)
 
-  pub step-bits : (l : List Bool) → 4 ≤ st .stage → stepOf st y size (bitsAnswer l) ≡ effectStep st size (settles ByBits l)
+  pub step-bits : (l : List Bool) → st .stage ≡ AllBits → stepOf st y size (bitsAnswer l) ≡ effectStep st size (settles ByBits l)
   unfolding effect
-  step-bits l h = go (st .stage) refl h
-    where
-      go : (j : ℕ) → st .stage ≡ j → 4 ≤ j → stepOf st y size (bitsAnswer l) ≡ effectStep st size (settles ByBits l)
-      go zero e h = absurd (omega arith)
-      go (suc zero) e h = absurd (omega arith)
-      go (suc (suc zero)) e h = absurd (omega arith)
-      go (suc (suc (suc zero))) e h = absurd (omega arith)
-      go (suc (suc (suc (suc j)))) e h = at-stage (bitsAnswer l) (suc (suc (suc (suc j)))) e
+  step-bits l e = at-stage (bitsAnswer l) AllBits e
 
   -- an anchor's bits
-  module _ (l : List Bool) (low : 0 < st .stage) (early : st .stage < 4) where
-    abbrev offset : ℕ
-    offset = anchorOffset (st .settings .m) (top st .p) (st .stage)
-
-    -- with t the stage that comes if the anchor has no place
-    pub step-anchor : (t : Stage) × (stepOf st y size (bitsAnswer l) ≡ effectStep st size (placedOr offset l t (place (st .settings .m) (st .settings .k) (top st .p) offset copy l)))
-    step-anchor =
-        let f = stage-anchor (st .settings) l (top st .p) (top st .q) copy (st .stage) low early in
-        (f .0, at-stage (bitsAnswer l) (st .stage) refl ∙ ap (effectStep st size) (f .1))
+  pub step-anchor : (l : List Bool) (i : Attempt) → st .stage ≡ Anchor i → let s = offset (st .settings .m) (top st .p) i in
+      stepOf st y size (bitsAnswer l) ≡ effectStep st size (placed s l (afterAnchor i) (place (st .settings .m) (st .settings .k) (top st .p) s copy l))
+  unfolding effect
+  step-anchor l i e = at-stage (bitsAnswer l) (Anchor i) e
 
 -- ---- a repair that is looked for
-module _ (st : Rebuilder) (y : List ℕ) (size a v : ℕ) (ph : st .phase ≡ 1) (e : st .stage ≡ 0) (o : OneApart (top st .p) (top st .q))
+module _ (st : Rebuilder) (y : List ℕ) (size a v : ℕ) (ph : st .phase ≡ AtPieces) (o : RepairDue st)
     {t : Piece} (tp : t ≡ top st) {r : Repair} (rp : r ≡ repairEdit (t .p) a (range y (t .y) (t .q))) where
   repair-top : r ≡ repairEdit (top st .p) a (range y (top st .y) (top st .q))
   repair-top = rp ∙ ap (λ (z : Piece). repairEdit (z .p) a (range y (z .y) (z .q))) tp
 
   pub found-step : {h : How} → h ≡ repairHow (t .p) (t .q) → {d : Edit} → r ≡ Found d → stepOf st y size (syndromeAnswer a v) ≡ trialStep st y size v h d
   found-step g {d} f =
-      syndrome-found st y size ph a v e repair-top o f
+      syndrome-found st y size ph a v repair-top o f
       ∙ ap (λ (w : How). trialStep st y size v w d) (sym (g ∙ ap (λ (z : Piece). repairHow (z .p) (z .q)) tp))
 
   pub found-fits : {d : Edit} → r ≡ Found d → Fits d (top st .q) (top st .p)
-  found-fits f = syndrome-fits st y size ph a v e repair-top o f
+  found-fits f = syndrome-fits st y size ph a v repair-top o f
 
   pub nothing-step : r ≡ Nothing → stepOf st y size (syndromeAnswer a v) ≡ effectStep st size (stays (laterStage (st .settings) (top st .p) (length (range y (top st .y) (top st .q)))))
-  nothing-step f = syndrome-nothing st y size ph a v e repair-top o f
+  nothing-step f = syndrome-nothing st y size ph a v repair-top o f
 
 -- ---- the anchor's place
 pub place-some : {p : Place} (o : Option ℕ) → p ≡ placeIn o → {r : ℕ} → p ≡ At r → o ≡ some r
@@ -435,21 +403,21 @@ place-within m k p s ys b r e =
     let h : Best (anchorFits m k p s ys b) (away p (length ys) s) 0 (length ys + 1 - m) (some r) = rw e at (place-best m k p s ys b) in
     let u = h .1 in omega arith
 
-module _ {st : Rebuilder} {size room : ℕ} (k : Acting st size room) (anchoring : (0 < st .stage) × (st .stage < 4)) {t : Piece} (tp : t ≡ top st) where
-  long : 4 * st .settings .m ≤ top st .p
-  long = stage-big (st .settings) (top st .p) (top st .q) (st .stage) (topped st size room k .stage) (anchoring .0) (anchoring .1)
+module _ {st : Rebuilder} {size room : ℕ} (k : Acting st size room) {i : Attempt} (anchoring : st .stage ≡ Anchor i) {t : Piece} (tp : t ≡ top st) where
+  long : Long (st .settings) (top st .p)
+  long = stage-long (st .settings) (framed st size room k .limits) (top st .p) (top st .q) (st .stage) (topped st size room k .stage) i anchoring
 
   pub offsets : Offsets (st .settings .m) (t .p)
   offsets =
       let l = long in let a = topped st size room k .inX in let n = framed st size room k .size in let m = framed st size room k .limits .m-most in
-      rw tp record { m-most = m; long = l; p-most = omega arith }
+      rw tp record { m-most = m; long = omega arith; p-most = omega arith }
 
-  module _ {s : ℕ} (so : s ≡ anchorOffset (st .settings .m) (t .p) (st .stage)) where
-    pub offset-is : s ≡ anchorOffset (st .settings .m) (top st .p) (st .stage)
-    offset-is = so ∙ ap (λ (z : Piece). anchorOffset (st .settings .m) (z .p) (st .stage)) tp
+  module _ {s : ℕ} (so : s ≡ offset (st .settings .m) (t .p) i) where
+    pub offset-is : s ≡ offset (st .settings .m) (top st .p) i
+    offset-is = so ∙ ap (λ (z : Piece). offset (st .settings .m) (z .p) i) tp
 
     offset-room : s + st .settings .m ≤ top st .p
-    offset-room = let o = offset-within (st .settings .m) (top st .p) (st .stage) long in let e = offset-is in omega arith
+    offset-room = let o = offset-fits (st .settings) (framed st size room k .limits) (top st .p) i long .room in let e = offset-is in omega arith
 
     pub search-ready : (y bits : List ℕ) → st .ybits ≤ 8 * length y → st .settings .m ≤ 8 * length bits → Ready y (t .y) (t .q) (t .p) s (st .settings .m) (st .settings .k) bits 0
     search-ready y bits h i =
@@ -467,32 +435,32 @@ module _ {st : Rebuilder} {size room : ℕ} (k : Acting st size room) (anchoring
     anchor-text string h = let a = topped st size room k .inX in let n = framed st size room k .size in let o = offset-room in rw tp record { there = omega arith; few = omega arith }
 
     module _ (y : List ℕ) (b : List Bool) {p : Place} (pp : p ≡ placeIn (place (st .settings .m) (st .settings .k) (t .p) s (range y (t .y) (t .q)) b)) where
-      found-place : {r : ℕ} → p ≡ At r → place (st .settings .m) (st .settings .k) (top st .p) (anchorOffset (st .settings .m) (top st .p) (st .stage)) (range y (top st .y) (top st .q)) b ≡ some r
+      found-place : {r : ℕ} → p ≡ At r → place (st .settings .m) (st .settings .k) (top st .p) (offset (st .settings .m) (top st .p) i) (range y (top st .y) (top st .q)) b ≡ some r
       found-place f =
-          ap₂ (λ (z : Piece) (i : ℕ). place (st .settings .m) (st .settings .k) (z .p) i (range y (z .y) (z .q)) b) (sym tp) (sym offset-is)
+          ap₂ (λ (z : Piece) (j : ℕ). place (st .settings .m) (st .settings .k) (z .p) j (range y (z .y) (z .q)) b) (sym tp) (sym offset-is)
           ∙ place-some (place (st .settings .m) (st .settings .k) (t .p) s (range y (t .y) (t .q)) b) pp f
 
-      no-place : p ≡ Nowhere → place (st .settings .m) (st .settings .k) (top st .p) (anchorOffset (st .settings .m) (top st .p) (st .stage)) (range y (top st .y) (top st .q)) b ≡ none
+      no-place : p ≡ Nowhere → place (st .settings .m) (st .settings .k) (top st .p) (offset (st .settings .m) (top st .p) i) (range y (top st .y) (top st .q)) b ≡ none
       no-place f =
-          ap₂ (λ (z : Piece) (i : ℕ). place (st .settings .m) (st .settings .k) (z .p) i (range y (z .y) (z .q)) b) (sym tp) (sym offset-is)
+          ap₂ (λ (z : Piece) (j : ℕ). place (st .settings .m) (st .settings .k) (z .p) j (range y (z .y) (z .q)) b) (sym tp) (sym offset-is)
           ∙ place-none (place (st .settings .m) (st .settings .k) (t .p) s (range y (t .y) (t .q)) b) pp f
 
       pub place-splits : {r : ℕ} → p ≡ At r → Splitting st s r
       place-splits {r} f =
-          let w = place-within (st .settings .m) (st .settings .k) (top st .p) (anchorOffset (st .settings .m) (top st .p) (st .stage)) (range y (top st .y) (top st .q)) b r (found-place f) in
+          let w = place-within (st .settings .m) (st .settings .k) (top st .p) (offset (st .settings .m) (top st .p) i) (range y (top st .y) (top st .q)) b r (found-place f) in
           let e = range-length y (top st .y) (top st .q) in
-          record { later = anchoring .0; early = anchoring .1; offset = offset-is; placed = omega arith }
+          record { attempt = i; stage = anchoring; at = offset-is; placed = omega arith }
 
       pub place-small : {r : ℕ} → p ≡ At r → r < 4294967296
       place-small f = let g = place-splits f in let a = g .placed in let b = topped st size room k .inY in let c = framed st size room k .copy in omega arith
 
       pub anchor-placed : {r : ℕ} → p ≡ At r → stepOf st y size (bitsAnswer b) ≡ effectStep st size (splits s r b)
       anchor-placed {r} f =
-          let a = step-anchor st y size (k .phase) b (anchoring .0) (anchoring .1) in
-          a .1 ∙ ap (λ (o : Option ℕ). effectStep st size (placedOr (anchorOffset (st .settings .m) (top st .p) (st .stage)) b (a .0) o)) (found-place f)
-          ∙ ap (λ (i : ℕ). effectStep st size (splits i r b)) (sym offset-is)
+          step-anchor st y size (k .phase) b i anchoring
+          ∙ ap (λ (o : Option ℕ). effectStep st size (placed (offset (st .settings .m) (top st .p) i) b (afterAnchor i) o)) (found-place f)
+          ∙ ap (λ (j : ℕ). effectStep st size (splits j r b)) (sym offset-is)
 
-      pub anchor-unplaced : p ≡ Nowhere → (u : Stage) × (stepOf st y size (bitsAnswer b) ≡ effectStep st size (stays u))
+      pub anchor-unplaced : p ≡ Nowhere → stepOf st y size (bitsAnswer b) ≡ effectStep st size (stays (afterAnchor i))
       anchor-unplaced f =
-          let a = step-anchor st y size (k .phase) b (anchoring .0) (anchoring .1) in
-          (a .0, a .1 ∙ ap (λ (o : Option ℕ). effectStep st size (placedOr (anchorOffset (st .settings .m) (top st .p) (st .stage)) b (a .0) o)) (no-place f))
+          step-anchor st y size (k .phase) b i anchoring
+          ∙ ap (λ (o : Option ℕ). effectStep st size (placed (offset (st .settings .m) (top st .p) i) b (afterAnchor i) o)) (no-place f)

@@ -6,14 +6,14 @@ use mathlib.Core.Option.{some}
 use mathlib.Core.List.{List, [], _∷_}
 use Prim.Native.Nat.{ℕ, _+_, _*_, max, _≤_, _<_}
 use lib.ListN.{length}
-use lib.Dec.{leb, eqb}
-use Rattle.strings.specs.Bits.{range, atFront}
+use lib.Dec.{eqb}
+use Rattle.strings.specs.Bits.{range, atFront, maxBits}
 use Rattle.strings.specs.laws.PackLaws.{Bytes}
 use Rattle.codes.specs.declared.edits.Edit.{Edit}
 use Rattle.codes.specs.code.Edits.{edited}
 use Rattle.ends.specs.declared.How.{How}
 use Rattle.ends.specs.declared.How.the-variants.{ByPutIn, ByTakeOut}
-use Rattle.ends.specs.Segments.{trial, retry}
+use Rattle.ends.specs.Segments.{trial, retry, offset}
 use Rattle.strings.specs.declared.Refusal.{Refusal}
 use Rattle.messages.specs.declared.Question.{Question}
 use Rattle.messages.specs.declared.AnswerRead.{AnswerRead}
@@ -24,12 +24,17 @@ use Rattle.ends.specs.declared.Rebuilder.{Rebuilder}
 use Rattle.ends.specs.declared.SheetChange.{SheetChange}
 use Rattle.ends.specs.declared.SheetChange.the-variants.{NoRow}
 use Rattle.ends.specs.Runs.{full}
-use Rattle.ends.specs.States.{planned, top, anchorOffset}
+use Rattle.ends.specs.States.{planned, top}
 use Rattle.ends.specs.Soundness.{sound}
 use Rattle.ends.specs.RebuilderCall.{Taken, refuses, takes, Step, writtenQuestion, questionLength, Rooms, roomFor, effectStep, stepOf}
 use Rattle.ends.specs.declared.rebuilding.RebuilderAnswer.{RebuilderAnswer}
 use Rattle.ends.specs.declared.rebuilding.RebuilderAnswer.the-variants.{Asks, Finished, Refused}
 use Rattle.ends.specs.declared.rebuilding.RebuilderOut.{RebuilderOut}
+use Rattle.ends.specs.declared.Stage.{Stage}
+use Rattle.ends.specs.declared.Stage.the-variants.{Hashing, PuttingIn, TakingOut, Anchor, AllBits}
+use Rattle.ends.specs.declared.Attempt.{Attempt}
+use Rattle.ends.specs.declared.Phase.{Phase}
+use Rattle.ends.specs.declared.Phase.the-variants.{AtOpening, AtPieces, AtWhole}
 
 -- ---- the parts of the call
 -- the next question's length, or the finish
@@ -54,7 +59,7 @@ pub record OutIs (r : RebuilderOut) (s : Rebuilder) (k : SheetChange) (q q′ : 
 pub record Acting (st : Rebuilder) (size room : ℕ) : Type 0 where
   pub sound-now : sound st ≡ true
   pub array : length (st .pieces) ≡ 32
-  pub phase : st .phase ≡ 1
+  pub phase : st .phase ≡ AtPieces
   pub some : 0 < st .waiting
   pub short : size ≤ max 9 (full (st .n))
   pub enough : 8 ≤ room
@@ -66,14 +71,39 @@ pub record Lending (st : Rebuilder) (y string : List ℕ) : Type 0 where
 
 -- s is the offset of the stage's anchor, and r leaves it in the copy
 pub record Splitting (st : Rebuilder) (s r : ℕ) : Type 0 where
-  pub later : 0 < st .stage
-  pub early : st .stage < 4
-  pub offset : s ≡ anchorOffset (st .settings .m) (top st .p) (st .stage)
+  pub attempt : Attempt
+  pub stage : st .stage ≡ Anchor attempt
+  pub at : s ≡ offset (st .settings .m) (top st .p) attempt
   pub placed : r + st .settings .m ≤ top st .q
 
-pub data OneApart (p q : ℕ) : Type 0 where
-  oneLess : q + 1 ≡ p → OneApart p q
-  oneMore : q ≡ p + 1 → OneApart p q
+-- a stage after which another one can come
+abbrev pub Retriable : Stage → Type 0
+Retriable Hashing = Unit {0}
+Retriable PuttingIn = Unit {0}
+Retriable TakingOut = Unit {0}
+Retriable (Anchor i) = Unit {0}
+Retriable AllBits = ⊥
+
+-- step 3, of the leftmost piece
+pub data RepairDue (st : Rebuilder) : Type 0 where
+  putsIn : st .stage ≡ PuttingIn → top st .q + 1 ≡ top st .p → RepairDue st
+  takesOut : st .stage ≡ TakingOut → top st .q ≡ top st .p + 1 → RepairDue st
+
+-- step 4
+abbrev pub AsksBits : Stage → Type 0
+AsksBits Hashing = ⊥
+AsksBits PuttingIn = ⊥
+AsksBits TakingOut = ⊥
+AsksBits (Anchor i) = Unit {0}
+AsksBits AllBits = Unit {0}
+
+-- how many bits it then asks for
+abbrev pub bitsOfStage : Rebuilder → Stage → ℕ
+bitsOfStage st Hashing = 0
+bitsOfStage st PuttingIn = 0
+bitsOfStage st TakingOut = 0
+bitsOfStage st (Anchor i) = st .settings .m
+bitsOfStage st AllBits = top st .p
 
 -- step 3: put-in for a copy that is one bit short, else take-out
 unfoldable pub repairHow : ℕ → ℕ → How
@@ -90,24 +120,29 @@ trialStep st y size v how e =
 pub record Opening (st : Rebuilder) (n room : ℕ) : Type 0 where
   pub sound-now : sound st ≡ true
   pub array : length (st .pieces) ≡ 32
-  pub phase : st .phase ≡ 0
-  pub small : n ≤ 65536
+  pub phase : st .phase ≡ AtOpening
+  pub small : n ≤ maxBits
   pub enough : 8 ≤ room
 
 -- an answer of size bytes with all bits of the string
 pub record WholeDue (st : Rebuilder) (size room : ℕ) : Type 0 where
   pub sound-now : sound st ≡ true
-  pub phase : st .phase ≡ 2
+  pub phase : st .phase ≡ AtWhole
   pub short : size ≤ full (st .n)
   pub enough : 8 ≤ room
 
 -- an answer of size bytes with bits: of the string, or of the leftmost piece
 pub record BitsDue (st : Rebuilder) (size room : ℕ) : Type 0 where
-  pub phases : (WholeDue st size room) ⊎ (Acting st size room × (0 < st .stage))
+  pub phases : (WholeDue st size room) ⊎ (Acting st size room × AsksBits (st .stage))
 
 -- how many bits are awaited
+abbrev pub dueAt : Phase → Rebuilder → ℕ
+dueAt AtOpening st = 0
+dueAt AtPieces st = bitsOfStage st (st .stage)
+dueAt AtWhole st = st .n
+
 abbrev pub dueLength : Rebuilder → ℕ
-dueLength st = cond (eqb (st .phase) 2) (st .n) (cond (leb 4 (st .stage)) (top st .p) (st .settings .m))
+dueLength st = dueAt (st .phase) st
 
 -- the question that waits, and what was read from the message as its answer
 pub record Due (st : Rebuilder) (msg : List ℕ) (len : ℕ) (read : AnswerRead) : Type 0 where

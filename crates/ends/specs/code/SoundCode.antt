@@ -7,14 +7,14 @@ use native.Mathlib.Nat.{div-le-self, mul-le-mul}
 use native.Mathlib.Numerals.{add-one}
 use native.Mathlib.Omega.{arith}
 use lib.ListN.{getD}
-use lib.Dec.{eqb}
-use borrow.Author.Tests.{lt-leb, le-leb, eq-eqb, ne-eqb}
+use borrow.Author.Tests.{lt-leb, le-leb}
 use Rattle.ends.specs.declared.Piece.{Piece}
 use Rattle.ends.specs.declared.Rebuilder.{Rebuilder}
 use Rattle.strings.specs.SettingLimits.{Limits, withinLimits}
-use Rattle.ends.specs.Soundness.{bound, isBlank, blankFrom, pieceFits, inOrder, rowsLeft, asksLeft, openingSound, piecesSound, wholeSound, phaseSound, sound}
+use Rattle.ends.specs.Soundness.{bound, isBlank, blankFrom, pieceFits, inOrder, rowsLeft, asksLeft, phaseSound, sound}
 use Rattle.ends.specs.States.{noPiece, held}
 use Rattle.ends.specs.laws.StackLaws.{held-length}
+use Rattle.strings.specs.Bits.{maxBits}
 
 -- the sum of a·floor(p/m) + b over pieces
 unfoldable pub workLeft : (a b m : ℕ) → List Piece → ℕ
@@ -25,7 +25,7 @@ workLeft a b m (pc ∷ l) = a * (pc .p / m) + b + workLeft a b m l
 -- what the first tests show
 pub record Sized (st : Rebuilder) : Type 0 where
   pub limits : Limits (st .settings)
-  pub n-most : st .n ≤ 65536
+  pub n-most : st .n ≤ maxBits
   pub few : st .waiting ≤ 32
 
 pub record Work (st : Rebuilder) (a b : ℕ) : Type 0 where
@@ -105,33 +105,24 @@ asks-left m (pc ∷ l) = ap (λ (k : ℕ). 9 * (pc .p / m) + 5 + k) (asks-left m
 
 -- ---- the test by its cases
 module _ (st : Rebuilder) where
-  pub phase-opening : st .phase ≡ 0 → (r : Bool) → r ≡ openingSound st → r ≡ phaseSound st
-  phase-opening e r f = rw (eq-eqb (st .phase) 0 e) f
-
-  pub phase-pieces : (st .phase ≡ 0 → ⊥) → st .phase ≡ 1 → (r : Bool) → r ≡ piecesSound st → r ≡ phaseSound st
-  phase-pieces z e r f = rw (ne-eqb (st .phase) 0 z, eq-eqb (st .phase) 1 e) f
-
-  pub phase-whole : (st .phase ≡ 0 → ⊥) → (st .phase ≡ 1 → ⊥) → (w r : Bool) → w ≡ wholeSound st → r ≡ eqb (st .phase) 2 && w → r ≡ phaseSound st
-  phase-whole z o w r e f = rw (ne-eqb (st .phase) 0 z, ne-eqb (st .phase) 1 o, ← e) f
-
   pub sound-settings : (t : Bool) → t ≡ withinLimits (st .settings) → t ≡ false → false ≡ sound st
   unfolding sound
   sound-settings t e f = rw (← e, f) refl
 
   module _ (t : Bool) (e : t ≡ withinLimits (st .settings)) (f : t ≡ true) where
-    pub sound-ybits : 65536 < st .ybits → false ≡ sound st
+    pub sound-ybits : maxBits < st .ybits → false ≡ sound st
     unfolding sound
-    sound-ybits a = rw (← e, f, lt-leb (st .ybits) 65536 a) refl
+    sound-ybits a = rw (← e, f, lt-leb (st .ybits) maxBits a) refl
 
-    pub sound-n : st .ybits ≤ 65536 → 65536 < st .n → false ≡ sound st
+    pub sound-n : st .ybits ≤ maxBits → maxBits < st .n → false ≡ sound st
     unfolding sound
-    sound-n a b = rw (← e, f, le-leb (st .ybits) 65536 a, lt-leb (st .n) 65536 b) refl
+    sound-n a b = rw (← e, f, le-leb (st .ybits) maxBits a, lt-leb (st .n) maxBits b) refl
 
-    pub sound-waiting : st .ybits ≤ 65536 → st .n ≤ 65536 → 32 < st .waiting → false ≡ sound st
+    pub sound-waiting : st .ybits ≤ maxBits → st .n ≤ maxBits → 32 < st .waiting → false ≡ sound st
     unfolding sound
-    sound-waiting a b c = rw (← e, f, le-leb (st .ybits) 65536 a, le-leb (st .n) 65536 b, lt-leb (st .waiting) 32 c) refl
+    sound-waiting a b c = rw (← e, f, le-leb (st .ybits) maxBits a, le-leb (st .n) maxBits b, lt-leb (st .waiting) 32 c) refl
 
-    pub sound-rest : st .ybits ≤ 65536 → st .n ≤ 65536 → st .waiting ≤ 32 → (u v r : Bool) → u ≡ blankFrom (st .pieces) (32 - st .waiting) (st .waiting) → v ≡ phaseSound st
+    pub sound-rest : st .ybits ≤ maxBits → st .n ≤ maxBits → st .waiting ≤ 32 → (u v r : Bool) → u ≡ blankFrom (st .pieces) (32 - st .waiting) (st .waiting) → v ≡ phaseSound st
         → r ≡ u && v → r ≡ sound st
     unfolding sound
-    sound-rest a b c u v r g h k = rw (k, g, h, ← e, f, le-leb (st .ybits) 65536 a, le-leb (st .n) 65536 b, le-leb (st .waiting) 32 c) refl
+    sound-rest a b c u v r g h k = rw (k, g, h, ← e, f, le-leb (st .ybits) maxBits a, le-leb (st .n) maxBits b, le-leb (st .waiting) 32 c) refl

@@ -1,17 +1,22 @@
 -- A state that passes the soundness test meets what the functions of src/state.rt require.
 use mathlib.Core.Path.{_≡_}
-use mathlib.Core.Bool.{Bool, true, false, cond, _&&_}
+use mathlib.Core.Bool.{true, _&&_}
 use Prim.Native.Nat.{ℕ, max, _≤_, _<_}
 use native.Mathlib.Nat.{div-le-self, max-le}
 use native.Mathlib.Omega.{arith}
 use lib.Dec.{eqb}
-use Rattle.strings.specs.laws.Tests.{and-right, by-test}
+use Rattle.strings.specs.laws.Tests.{by-test}
 use Rattle.ends.specs.declared.Rebuilder.{Rebuilder}
 use Rattle.ends.specs.Runs.{full}
 use Rattle.ends.specs.States.{top}
-use Rattle.ends.specs.Soundness.{openingSound, piecesSound, wholeSound, phaseSound, mostCounted, sound}
-use Rattle.ends.specs.laws.SoundParts.{Framed, sound-is, OpeningIs, opening-is, PiecesIs, pieces-is, phase-pieces, WholeIs, whole-is, top-is, top-most, stage-big}
+use Rattle.ends.specs.Soundness.{phaseSound, mostCounted, sound, soundAt}
+use Rattle.ends.specs.laws.SoundParts.{Framed, sound-is, OpeningIs, opening-is, PiecesIs, pieces-is, phase-pieces, WholeIs, whole-is, top-is, stage-long}
+use Rattle.ends.specs.laws.Counts.{before-most}
 use Rattle.ends.specs.code.StateCode.{Counts, Asks, Plans}
+use Rattle.ends.specs.declared.Phase.{Phase}
+use Rattle.ends.specs.declared.Phase.the-variants.{AtOpening, AtPieces, AtWhole}
+use Rattle.ends.specs.Segments.{asks}
+use Rattle.strings.specs.Bits.{maxBits}
 
 -- ---- the counts
 record CountFacts (st : Rebuilder) : Type 0 where
@@ -19,7 +24,7 @@ record CountFacts (st : Rebuilder) : Type 0 where
   counted : st .counted ≤ 40000
   used : st .rows ≤ 200000
 
-full-most : (n : ℕ) → n ≤ 65536 → max 9 (full n) ≤ 8193
+full-most : (n : ℕ) → n ≤ maxBits → max 9 (full n) ≤ 8193
 full-most n h = max-le {a = 9} {b = full n} (omega arith) (omega arith)
 
 module _ (st : Rebuilder) (f : Framed st) where
@@ -36,7 +41,7 @@ module _ (st : Rebuilder) (f : Framed st) where
   pieces-counts : PiecesIs st → CountFacts st
   pieces-counts k =
       let r = k .stack .rows in
-      let g = top-most st (k .stack .fits) in
+      let g = before-most (st .stage) in
       let d = div-le-self (st .n) (st .settings .m) in
       let n = f .size in
       let q = k .asks in
@@ -57,12 +62,12 @@ module _ (st : Rebuilder) (f : Framed st) where
 
   -- whatever the phase
   phase-counts : phaseSound st ≡ true → CountFacts st
-  phase-counts t = go (eqb (st .phase) 0) (eqb (st .phase) 1) t
+  phase-counts t = go (st .phase) t
     where
-      go : (a b : Bool) → cond a (openingSound st) (cond b (piecesSound st) (eqb (st .phase) 2 && wholeSound st)) ≡ true → CountFacts st
-      go true b e = opening-counts (opening-is st e)
-      go false true e = pieces-counts (pieces-is st e)
-      go false false e = whole-counts (whole-is st (and-right (eqb (st .phase) 2) (wholeSound st) e))
+      go : (ph : Phase) → soundAt ph st ≡ true → CountFacts st
+      go AtOpening e = opening-counts (opening-is st e)
+      go AtPieces e = pieces-counts (pieces-is st e)
+      go AtWhole e = whole-counts (whole-is st e)
 
 -- ---- what src/state.rt requires
 module _ (st : Rebuilder) (ok : sound st ≡ true) where
@@ -73,13 +78,14 @@ module _ (st : Rebuilder) (ok : sound st ≡ true) where
       let c = phase-counts st (f .0) (f .1) in
       let a = c .answered in let b = c .counted in let d = c .used in record { answered = omega arith; counted = omega arith; used = omega arith }
 
-  sound-asks : st .phase ≡ 1 → 0 < st .waiting → Asks (st .settings .m) (st .stage) (top st)
+  sound-asks : st .phase ≡ AtPieces → 0 < st .waiting → Asks (st .settings .m) (top st) (st .stage)
   sound-asks e w =
       let f = sound-is st ok in
       let t = top-is st (pieces-is st (rw (phase-pieces st e) at (f .1)) .stack) w in
       let n = f .0 .size in
       let x = t .inX in
-      record { m-most = f .0 .limits .m-most; p-most = omega arith; x-most = omega arith; long = λ b c. stage-big (st .settings) (top st .p) (top st .q) (st .stage) (t .stage) b c }
+      let L = f .0 .limits in
+      record { m-most = L .m-most; p-most = omega arith; x-most = omega arith; long = λ i b. let l = stage-long (st .settings) L (top st .p) (top st .q) (st .stage) (t .stage) i b in omega arith }
 
   pub sound-plans : Plans st
   sound-plans = record { few = sound-is st ok .0 .few; asks = λ e w. sound-asks e w }

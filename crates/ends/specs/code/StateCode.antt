@@ -1,25 +1,25 @@
 -- What the functions of src/state.rt require, and laws for their proofs.
-use mathlib.Core.Path.{_≡_, refl, sym, ap, _∙_}
-use mathlib.Core.Bool.{Bool, true, false, cond, _||_}
+use mathlib.Core.Path.{_≡_, refl, ap, _∙_}
+use mathlib.Core.Bool.{cond, _||_}
 use mathlib.Core.Option.{Option, none, some}
 use Prim.Native.Nat.{ℕ, _+_, _-_, _*_, _≤_, _<_}
 use native.Mathlib.Nat.{le-refl}
 use native.Mathlib.Omega.{arith}
 use lib.ListN.{set}
 use lib.Dec.{eqb}
-use borrow.Author.Tests.{eq-eqb, ne-eqb}
-use Rattle.strings.specs.laws.Tests.{true-false, by-test}
+use Rattle.strings.specs.laws.Tests.{by-test}
 use Rattle.messages.specs.declared.Question.{Question}
 use Rattle.strings.specs.declared.settings.Settings.{Settings}
 use Rattle.ends.specs.declared.Piece.{Piece}
 use Rattle.ends.specs.declared.Rebuilder.{Rebuilder}
-use Rattle.ends.specs.States.{top, laterNumber, firstNumber, stacked, popped, pushed, restaged, splitAt, leftPiece, rightPiece}
+use Rattle.ends.specs.States.{top, stacked, popped, pushed, restaged, splitAt, leftPiece, rightPiece}
 use Rattle.ends.specs.declared.state.Plan.{Plan}
 use Rattle.ends.specs.declared.state.Plan.the-variants.{Ask, Finished}
-
--- lengths that are equal or one apart
-unfoldable pub withinOne : (p q : ℕ) → Bool
-withinOne p q = eqb q p || (eqb (q + 1) p || eqb q (p + 1))
+use Rattle.ends.specs.declared.Stage.{Stage}
+use Rattle.ends.specs.declared.Stage.the-variants.{Anchor}
+use Rattle.ends.specs.declared.Attempt.{Attempt}
+use Rattle.ends.specs.declared.Phase.the-variants.{AtPieces}
+use Rattle.strings.specs.Bits.{maxBits}
 
 -- a planned question as the code hands it on
 abbrev pub planOf : Option Question → Plan
@@ -45,13 +45,12 @@ pub record Retries (st : Rebuilder) : Type 0 where
   pub usable : Usable (st .settings)
   pub some : 0 < st .waiting
   pub few : st .waiting ≤ 32
-  pub early : st .stage < 4
 
 -- a piece that is long enough for anchors
 pub record Offsets (m p : ℕ) : Type 0 where
   pub m-most : m ≤ 64
   pub long : 4 * m ≤ p
-  pub p-most : p ≤ 65536
+  pub p-most : p ≤ maxBits
 
 -- the anchor at offset s, placed at r, is within the leftmost piece, and one more piece has room
 pub record Splits (st : Rebuilder) (s r : ℕ) : Type 0 where
@@ -70,15 +69,15 @@ pub record Counts (st : Rebuilder) (size rows : ℕ) : Type 0 where
   pub used : st .rows + rows < 4294967296
 
 -- an anchor, where one is asked for, is within the piece
-pub record Asks (m j : ℕ) (t : Piece) : Type 0 where
+pub record Asks (m : ℕ) (t : Piece) (stage : Stage) : Type 0 where
   pub m-most : m ≤ 64
-  pub p-most : t .p ≤ 65536
+  pub p-most : t .p ≤ maxBits
   pub x-most : t .x + t .p < 4294967296
-  pub long : 0 < j → j < 4 → 4 * m ≤ t .p
+  pub long : (i : Attempt) → stage ≡ Anchor i → 4 * m ≤ t .p
 
 pub record Plans (st : Rebuilder) : Type 0 where
   pub few : st .waiting ≤ 32
-  pub asks : st .phase ≡ 1 → 0 < st .waiting → Asks (st .settings .m) (st .stage) (top st)
+  pub asks : st .phase ≡ AtPieces → 0 < st .waiting → Asks (st .settings .m) (top st) (st .stage)
 
 -- ---- laws
 -- settings are kept, and at most w pieces wait
@@ -108,32 +107,3 @@ pub split-is : (st one two three four : Rebuilder) (t : Piece) (s r : ℕ) → t
     → three ≡ pushed two (leftPiece t s r) → four ≡ restaged three → four ≡ splitAt st s r
 unfolding splitAt
 split-is st one two three four t s r a b c d e = rw (e, d, c, b, a) refl
-
--- ---- the stage at which a piece begins
-pub one-less : (p q : ℕ) → q + 1 ≡ p → true ≡ withinOne p q
-unfolding withinOne
-one-less p q e = let n : (q ≡ p) → ⊥ = omega arith in simp (ne-eqb _ _ n, eq-eqb _ _ e)
-
-pub one-more : (p q a b : ℕ) → a ≡ p → b ≡ q → (q ≡ p → ⊥) → (b + 1 ≡ a → ⊥) → eqb b (a + 1) ≡ withinOne p q
-unfolding withinOne
-one-more p q a b e f n k = let l : (q + 1 ≡ p) → ⊥ = omega arith in rw (e, f) (simp (ne-eqb _ _ n, ne-eqb _ _ l))
-
-pub first-near : (S : Settings) (p q : ℕ) (t : Bool) → t ≡ withinOne p q → t ≡ true → 0 ≡ firstNumber S p q
-unfolding firstNumber withinOne
-first-near S p q t e f = go (eqb q p) (eqb (q + 1) p) (eqb q (p + 1)) (sym e ∙ f)
-  where
-    go : (a b c : Bool) → a || (b || c) ≡ true → 0 ≡ cond a 0 (cond b 0 (cond c 0 (laterNumber S p q)))
-    go true b c h = refl
-    go false true c h = refl
-    go false false true h = refl
-    go false false false h = absurd (true-false (sym h))
-
-pub first-far : (S : Settings) (p q : ℕ) (t : Bool) (r : ℕ) → t ≡ withinOne p q → t ≡ false → r ≡ laterNumber S p q → r ≡ firstNumber S p q
-unfolding firstNumber withinOne
-first-far S p q t r e f g = go (eqb q p) (eqb (q + 1) p) (eqb q (p + 1)) (sym e ∙ f)
-  where
-    go : (a b c : Bool) → a || (b || c) ≡ false → r ≡ cond a 0 (cond b 0 (cond c 0 (laterNumber S p q)))
-    go true b c h = absurd (true-false h)
-    go false true c h = absurd (true-false h)
-    go false false true h = absurd (true-false h)
-    go false false false h = g

@@ -2,14 +2,15 @@
 use mathlib.Core.List.{List}
 use Prim.Native.Nat.{ℕ, _+_, _-_, _*_, _/_, _≤_, min}
 use lib.ListN.{length}
+use Rattle.strings.specs.Bits.{maxBits}
 
 -- ---- the search inside the rebuilder's call
 -- both ranges are there, and all numbers are within their limits; the anchor may stand in a message
 pub record Ready (y : List ℕ) (start q p s m k : ℕ) (a : List ℕ) (at : ℕ) : Type 0 where
   pub piece : start + q ≤ 8 * length y
-  pub few : start + q ≤ 65536
-  pub length-most : p ≤ 65536
-  pub offset-most : s ≤ 65536
+  pub few : start + q ≤ maxBits
+  pub length-most : p ≤ maxBits
+  pub offset-most : s ≤ maxBits
   pub m-most : m ≤ 64
   pub k-most : k ≤ 8
   pub anchor : at + m ≤ 8 * length a
@@ -26,6 +27,6 @@ windowStart p due reach end = min end ((due + 1 - (p + reach)) / 2)
 
 -- the sums that give the window fit in a machine number
 pub record Small (p due reach : ℕ) : Type 0 where
-  pub piece : p ≤ 65536
+  pub piece : p ≤ maxBits
   pub centre : due ≤ 196608
   pub width : reach ≤ 1048577

@@ -7,22 +7,20 @@ use Prim.Native.Nat.{ℕ, zero, suc, _+_, _-_, _*_}
 use native.Mathlib.Omega.{arith}
 use lib.ListN.{length, getD}
 use lib.Dec.{eqb}
-use borrow.Author.Tests.{eq-eqb, le-leb, ne-eqb}
+use borrow.Author.Tests.{ne-eqb}
 use Rattle.messages.specs.laws.AnswerLaws.{answer-form}
 use Rattle.messages.specs.Answers.{Answer, answerValue, bitsAnswer, hashAnswer, readAnswer, sizeAnswer, syndromeAnswer}
 use Rattle.messages.specs.Questions.{questionKind}
 use Rattle.messages.specs.declared.AnswerRead.{AnswerRead}
 use Rattle.messages.specs.declared.AnswerRead.the-variants.{IsBits, IsHash, IsSize, IsSyndrome, NoAnswer}
 use Rattle.messages.specs.declared.Question.{Question}
-use Rattle.messages.specs.declared.Question.the-variants.{AskHash, AskSyndrome}
-use Rattle.ends.specs.RebuilderCall.{Rooms, Step, Taken, awaits, bitsKnown, given, hears, numberedStage, questionLength, rebuilderCall, roomFor, stepOf, takes, unlessTaken, writtenQuestion}
+use Rattle.ends.specs.RebuilderCall.{Rooms, Step, Taken, awaits, bitsKnown, given, hears, questionLength, rebuilderCall, roomFor, stepOf, takes, unlessTaken, writtenQuestion}
 use Rattle.ends.specs.Runs.{sizeOf}
-use Rattle.ends.specs.Segments.{asks, hashing, puttingIn, step, takingOut, waiting}
+use Rattle.ends.specs.Segments.{asks, step}
 use Rattle.ends.specs.laws.SoundSteps.{step-sound}
 use Rattle.ends.specs.Soundness.{sound}
-use Rattle.ends.specs.laws.StackLaws.{numberedPhase, stageHeld}
 use Rattle.ends.specs.laws.Standing.{Stands}
-use Rattle.ends.specs.States.{anchorOffset, askFor, held, noPiece, planned, top}
+use Rattle.ends.specs.States.{held, noPiece, planned, top, plannedAt}
 use Rattle.ends.specs.laws.Store.{Store, askStore, askTop, store}
 use Rattle.ends.specs.declared.Piece.{Piece}
 use Rattle.ends.specs.declared.Rebuilder.{Rebuilder}
@@ -33,45 +31,25 @@ use Rattle.strings.specs.laws.PackLaws.{Bytes}
 use Rattle.strings.specs.StringRule.{stringRule}
 use Rattle.strings.specs.declared.Refusal.{Refusal}
 use Rattle.strings.specs.declared.Refusal.the-variants.{BadString, BufferTooShort, OutOfTurn}
-
--- the question for a stage's number
-pub asks-number : (S : Settings) (pc : Piece) (j : ℕ) → asks S (pc .x) (pc .p) (numberedStage S (pc .p) (pc .q) j) ≡ askFor (S .m) j pc
-unfolding askFor anchorOffset
-asks-number S pc zero = go (eqb (pc .q) (pc .p)) (eqb (pc .q + 1) (pc .p))
-  where
-    go : (t u : Bool) → asks S (pc .x) (pc .p) (cond t hashing (cond u puttingIn takingOut)) ≡ cond t (AskHash (pc .x) (pc .p)) (AskSyndrome (pc .x) (pc .p))
-    go true u = refl
-    go false true = refl
-    go false false = refl
-asks-number S pc (suc zero) = refl
-asks-number S pc (suc (suc zero)) = refl
-asks-number S pc (suc (suc (suc zero))) = refl
-asks-number S pc (suc (suc (suc (suc j)))) =
-    let e : suc (suc (suc (suc j))) ≡ 4 + j = omega arith in
-    rw (ne-eqb (suc (suc (suc (suc j)))) 0 (λ z. omega arith), le-leb 4 (suc (suc (suc (suc j)))) (omega arith)) refl
+use Rattle.ends.specs.declared.Stage.{Stage}
+use Rattle.ends.specs.declared.Phase.{Phase}
+use Rattle.ends.specs.declared.Phase.the-variants.{AtOpening, AtPieces, AtWhole}
 
 -- a state asks what the store that it stands for asks
 pub asks-planned : {S : Settings} {yb : ℕ} {bs₀ : List ℕ} {sh₀ : List Row} {z : ℕ} {st : Rebuilder} {bs : List ℕ} {sh : List Row} {s : Store} → Stands S yb bs₀ sh₀ z st bs sh s → planned st ≡ askStore S s
 unfolding planned top
-asks-planned {S} {st = st} {s = s} h = go (st .phase) refl
+asks-planned {S} {st = st} {s = s} h = go (st .phase) ∙ sym (ap (askStore S) (h .is))
   where
-    ask-top : (w : ℕ) (arr : List Piece) (j : ℕ) → cond (eqb w 0) none (some (askFor (S .m) j (getD arr (w - 1) noPiece))) ≡ askTop S (stageHeld S j (held w arr)) (held w arr)
-    ask-top zero arr j = refl
-    ask-top (suc w) arr j =
+    ask-top : (w : ℕ) (arr : List Piece) (t : Stage) → cond (eqb w 0) none (some (asks S (getD arr (w - 1) noPiece .x) (getD arr (w - 1) noPiece .p) t)) ≡ askTop S t (held w arr)
+    ask-top zero arr t = refl
+    ask-top (suc w) arr t =
         let e : suc w - 1 ≡ w = omega arith in
-        rw (e, ne-eqb (suc w) 0 (λ z. omega arith)) (ap some (sym (asks-number S (getD arr w noPiece) j)))
+        rw (e, ne-eqb (suc w) 0 (λ z. omega arith)) refl
 
-    go : (k : ℕ) → st .phase ≡ k → planned st ≡ askStore S s
-    go zero e =
-        rw (eq-eqb (st .phase) 0 e, h .settings)
-        (sym (ap (askStore S) (h .is) ∙ ap (λ (k : ℕ). askStore S (store (numberedPhase k) (st .n) (st .counted) (stageHeld S (st .stage) (held (st .waiting) (st .pieces))) (held (st .waiting) (st .pieces)) (h .str) (h .rows))) e))
-    go (suc zero) e =
-        rw (ne-eqb (st .phase) 0 (λ z. omega arith), eq-eqb (st .phase) 1 e, h .settings)
-        (ask-top (st .waiting) (st .pieces) (st .stage)
-        ∙ sym (ap (askStore S) (h .is) ∙ ap (λ (k : ℕ). askStore S (store (numberedPhase k) (st .n) (st .counted) (stageHeld S (st .stage) (held (st .waiting) (st .pieces))) (held (st .waiting) (st .pieces)) (h .str) (h .rows))) e))
-    go (suc (suc k)) e =
-        rw (ne-eqb (st .phase) 0 (λ z. omega arith), ne-eqb (st .phase) 1 (λ z. omega arith))
-        (sym (ap (askStore S) (h .is) ∙ ap (λ (k : ℕ). askStore S (store (numberedPhase k) (st .n) (st .counted) (stageHeld S (st .stage) (held (st .waiting) (st .pieces))) (held (st .waiting) (st .pieces)) (h .str) (h .rows))) e))
+    go : (ph : Phase) → plannedAt ph st ≡ askStore S (store ph (st .n) (st .counted) (st .stage) (held (st .waiting) (st .pieces)) (h .str) (h .rows))
+    go AtOpening = rw (h .settings) refl
+    go AtPieces = rw (h .settings) (ask-top (st .waiting) (st .pieces) (st .stage))
+    go AtWhole = refl
 
 -- ---- the holder's answers are read
 -- an answer that was read is the one that its value says

@@ -9,7 +9,7 @@ use native.Mathlib.Nat.{div-le-self}
 use native.Mathlib.Omega.{arith}
 use lib.ListN.{length}
 use lib.Dec.{leb}
-use borrow.Author.Tests.{eq-eqb, le-leb, lt-ltb, ne-eqb}
+use borrow.Author.Tests.{eq-eqb, le-leb, lt-ltb}
 use Rattle.messages.specs.laws.AnswerLaws.{answer-reads}
 use Rattle.messages.specs.Answers.{Answer, answerBytes, answerValue, readAnswer}
 use Rattle.messages.specs.laws.QuestionLaws.{InRange, empty-no-question, question-fields-read, question-kind-reads, question-known, question-reads}
@@ -29,23 +29,23 @@ use Rattle.ends.specs.RebuilderCall.{Step, Taken, bitsKnown, freshRebuil
 use Rattle.ends.specs.Runs.{Honest, Run, advance, answer, countOf, opening, piecesOf, question, run, sheetOf, sizeOf, string, told, whole, working, full}
 use Rattle.ends.specs.Segments.{asks, settled}
 use Rattle.ends.specs.laws.Shape.{Inside, Proper, sizes}
-use Rattle.strings.specs.laws.Tests.{and-true}
+use Rattle.strings.specs.laws.Tests.{and-true, true-false}
 use Rattle.ends.specs.laws.SoundSteps.{fresh-sound, step-sound}
-use Rattle.ends.specs.Soundness.{sound}
-use Rattle.ends.specs.laws.StackLaws.{numberedPhase}
+use Rattle.ends.specs.Soundness.{sound, mostAnswers}
 use Rattle.ends.specs.laws.Standing.{Stands}
 use Rattle.ends.specs.States.{planned}
-use Rattle.ends.specs.laws.Steps.{RoomFor, phase-none, phase-one, phase-two, stands-step}
-use Rattle.ends.specs.laws.Store.{Tidy, asks-same, atOpening, atPieces, atWhole, keeps-pace, storeOf}
+use Rattle.ends.specs.laws.Steps.{RoomFor, stands-step}
+use Rattle.ends.specs.laws.Store.{Tidy, asks-same, keeps-pace, storeOf}
 use Rattle.ends.specs.Worlds.{IsAnswer, Call, Delivered, Earlier, Fair, FairCall, Lent, Member, OnceEach, Supposed, World, afterHeard, afterTaken, bitsOfX, bitsOfY, countedBytes, firstWorld, roomsOf, sent, stepWorld, toHolder, toRebuilder, world, worldAfter}
 use Rattle.ends.specs.declared.Holder.{Holder}
 use Rattle.ends.specs.declared.Rebuilder.{Rebuilder}
 use Rattle.ends.specs.declared.Row.{Row}
 use Rattle.strings.specs.declared.settings.Settings.{Settings}
-use Rattle.strings.specs.Bits.{atFront, bytesFor, pack, range}
+use Rattle.strings.specs.Bits.{atFront, bytesFor, pack, range, maxBits}
 use Rattle.strings.specs.laws.PackLaws.{pack-none}
 use Rattle.strings.specs.laws.RangeLaws.{range-length}
 use Rattle.strings.specs.laws.RuleLaws.{rule-is}
+use Rattle.ends.specs.declared.Phase.the-variants.{AtOpening, AtPieces, AtWhole}
 
 module _ (c : Lent) (r₀ : Rebuilder) (q₀ : List ℕ) (bs₀ : List ℕ) (sh₀ : List Row) (sup : Supposed c r₀ q₀ bs₀ sh₀) where
   abbrev S : Settings
@@ -69,10 +69,10 @@ module _ (c : Lent) (r₀ : Rebuilder) (q₀ : List ℕ) (bs₀ : List ℕ) (sh�
   y-length : length Y ≡ c .ybits
   y-length = range-length (c .y) 0 (c .ybits)
 
-  pub x-few : c .xbits ≤ 65536
+  pub x-few : c .xbits ≤ maxBits
   x-few = rule-is (c .x) (c .xbits) (sup .reference) .few
 
-  nX : length X ≤ 65536
+  nX : length X ≤ maxBits
   nX = let e = x-length in let f = x-few in omega arith
 
   y-range : range (c .y) 0 (length Y) ≡ Y
@@ -128,21 +128,19 @@ module _ (c : Lent) (r₀ : Rebuilder) (q₀ : List ℕ) (bs₀ : List ℕ) (sh�
   bits-known : (r : Rebuilder) (bs : List ℕ) (sh : List Row) (z : ℕ) (s : Run) (q : Question) → Stands S (length Y) bs₀ sh₀ z r bs sh (storeOf s) → Truth S X s → question S s ≡ some q → bitsKnown r (told S X q) ≡ c .xbits
   bits-known r bs sh z opening q h t k =
       let hi = h .is in
-      let ep : atOpening ≡ numberedPhase (r .phase) = cc in
+      let ep : r .phase ≡ AtOpening = cc in
       let e : AskOpen (S .h) (S .key) ≡ q = cc in
-      rw (eq-eqb (r .phase) 0 (phase-none (r .phase) ep), ← e) x-length
+      rw (ep, ← e) x-length
   bits-known r bs sh z (working n d segs rows) q h t k =
       let hi = h .is in
-      let ep : atPieces ≡ numberedPhase (r .phase) = cc in
+      let ep : r .phase ≡ AtPieces = cc in
       let en : n ≡ r .n = cc in
-      let p = phase-one (r .phase) ep in
-      rw (ne-eqb (r .phase) 0 (λ z. omega arith)) (sym en ∙ t .0 ∙ x-length)
+      rw ep (sym en ∙ t .0 ∙ x-length)
   bits-known r bs sh z (whole n d segs rows) q h t k =
       let hi = h .is in
-      let ep : atWhole ≡ numberedPhase (r .phase) = cc in
+      let ep : r .phase ≡ AtWhole = cc in
       let en : n ≡ r .n = cc in
-      let p = phase-two (r .phase) ep in
-      rw (ne-eqb (r .phase) 0 (λ z. omega arith)) (sym en ∙ t .0 ∙ x-length)
+      rw ep (sym en ∙ t .0 ∙ x-length)
 
   room-for : (s : Run) (q : Question) → Truth S X s → question S s ≡ some q → RoomFor S s (told S X q) bs₀ sh₀
   room-for opening q t k = let e : AskOpen (S .h) (S .key) ≡ q = cc in rw (← e, x-length) (sup .string, sup .sheet)
@@ -236,8 +234,8 @@ module _ (c : Lent) (r₀ : Rebuilder) (q₀ : List ℕ) (bs₀ : List ℕ) (sh�
       go q rq o (unopened f n) (opens z h key d w e) =
           hasOpened o (ap (λ (s : Holder). s .bits) e) (ap (λ (s : Holder). s .answers) e ∙ sym (ap (λ (k : List (List ℕ)). suc (length k)) n)) m (inl refl)
           (rq ∙ ap Asked (sym d) ∙ sym (ap₂ (λ (u v : ℕ). Asked (AskOpen u v)) (ap (λ (s : Holder). s .h) e) (ap (λ (s : Holder). s .key) e)))
-      go q rq o (unopened f n) (counts z w e) = let d : H .opened ≡ 0 = ap (λ (s : Holder). s .opened) f in absurd (omega arith)
-      go q rq o (hasOpened p bt an m₀ mem rd) (opens z h key d w e) = let u = p .opened in absurd (omega arith)
+      go q rq o (unopened f n) (counts z w e) = absurd (true-false (sym z ∙ ap (λ (s : Holder). s .opened) f))
+      go q rq o (hasOpened p bt an m₀ mem rd) (opens z h key d w e) = absurd (true-false (sym (p .opened) ∙ z))
       go q rq o (hasOpened p bt an m₀ mem rd) (counts z w e) =
           let a : H′ .answers ≡ H .answers + 1 = ap (λ (s : Holder). s .answers) e in
           hasOpened o (ap (λ (s : Holder). s .bits) e ∙ bt) (omega arith) m₀ (inr mem)
@@ -301,9 +299,9 @@ module _ (c : Lent) (r₀ : Rebuilder) (q₀ : List ℕ) (bs₀ : List ℕ) (sh�
       let rf = question-fields-read q (c .xbits) x-few r in
       let ans : answer (H .h) (H .key) X q ≡ told S X q = ap₂ (λ (i j : ℕ). answer i j X q) (hk .0) (hk .1) in
       let bt′ = eq-eqb (H .bits) (c .xbits) bt in
-      let op = eq-eqb (H .opened) 1 (p .opened) in (
+      let op = p .opened in (
         afterAnswer H (c .xbits) q,
-        rw (sup .reference, op, bt′, opened-sound H p, lt-ltb (H .answers) 1000000 (omega arith), question-kind-reads q) (rw (t, rf, ans) (sends-it H (b ∷ l) q h k (afterAnswer H (c .xbits) q))),
+        rw (sup .reference, op, bt′, opened-sound H p, lt-ltb (H .answers) mostAnswers (omega arith), question-kind-reads q) (rw (t, rf, ans) (sends-it H (b ∷ l) q h k (afterAnswer H (c .xbits) q))),
       )
 
   -- ---- every list of calls

@@ -14,10 +14,10 @@ use Rattle.codes.specs.Repair.{putIn, takeOut}
 use Rattle.messages.specs.Answers.{Answer}
 use Rattle.ends.specs.Anchors.{part, place}
 use Rattle.strings.specs.SettingLimits.{Limits}
-use Rattle.ends.specs.laws.Right.{Fit, StageOk}
+use Rattle.ends.specs.laws.Right.{Fit, StageOk, offset-fits}
 use Rattle.ends.specs.Runs.{copies, copyOf}
 use Rattle.ends.specs.laws.SegmentLaws.{Chain}
-use Rattle.ends.specs.Segments.{Effect, Segment, Stage, anchors, begin, dropped, effect, firstStage, hashOf, hashing, laterStage, made, placed, puttingIn, retry, rowsOf, settled, settles, splits, stays, step, takingOut, theBits, theHash, theSyndrome, tooSmall, trial, trialOf, waiting}
+use Rattle.ends.specs.Segments.{Effect, Segment, Stage, begin, dropped, effect, firstStage, hashOf, laterStage, made, placed, retry, rowsOf, settled, settles, splits, stays, step, theBits, theHash, theSyndrome, tooSmall, trial, trialOf, waiting, offset, afterAnchor}
 use Rattle.ends.specs.laws.Shape.{Shape}
 use Rattle.ends.specs.declared.How.{How}
 use Rattle.ends.specs.declared.How.the-variants.{ByAnchor, ByHash, ByPutIn, ByTakeOut}
@@ -25,6 +25,9 @@ use Rattle.strings.specs.declared.settings.Settings.{Settings}
 use Rattle.strings.specs.laws.Tests.{by-test}
 use Rattle.ends.specs.Claims.{isWait, total}
 use Rattle.ends.specs.Soundness.{bound}
+use Rattle.ends.specs.declared.Stage.the-variants.{Hashing, PuttingIn, TakingOut, Anchor, AllBits}
+use Rattle.ends.specs.declared.Attempt.{Attempt}
+use Rattle.ends.specs.declared.Attempt.the-variants.{First, Second, Third, asksBefore}
 
 -- two parts and an anchor between them
 pub split-div : (m a b p : ℕ) → 0 < m → a + (m + b) ≡ p → a / m + b / m + 1 ≤ p / m
@@ -33,16 +36,21 @@ split-div m a b p h e =
 
 -- ---- the questions that a stage can still bring for a piece that is not split
 abbrev pub cost : Stage → ℕ
-cost hashing = 5
-cost puttingIn = 5
-cost takingOut = 5
-cost (anchors l) = length l + 1
+cost t = 5 - asksBefore t
 
-pub cost-least : (t : Stage) → 1 ≤ cost t
-cost-least hashing = lit≤ tt
-cost-least puttingIn = lit≤ tt
-cost-least takingOut = lit≤ tt
-cost-least (anchors l) = omega arith
+pub before-most : (t : Stage) → asksBefore t ≤ 4
+before-most Hashing = lit≤ tt
+before-most PuttingIn = lit≤ tt
+before-most TakingOut = lit≤ tt
+before-most (Anchor First) = lit≤ tt
+before-most (Anchor Second) = lit≤ tt
+before-most (Anchor Third) = lit≤ tt
+before-most AllBits = lit≤ tt
+
+after-later : (i : Attempt) → asksBefore (afterAnchor i) ≡ asksBefore (Anchor i) + 1
+after-later First = refl
+after-later Second = refl
+after-later Third = refl
 
 -- what is known of an effect on a piece of length p at stage t: a settled one, a later stage, an anchor that fits
 abbrev pub Sane : Settings → ℕ → Stage → Effect → Type 0
@@ -56,7 +64,7 @@ three r m ys = rw (← drop-drop m r ys, take-append-drop m (drop r ys)) (take-a
 module _ (S : Settings) where
   later-cost : (p q : ℕ) → cost (laterStage S p q) ≤ 4
   unfolding laterStage
-  later-cost p q = by-test (λ (l : List ℕ). cost (anchors l) ≤ 4) (tooSmall S p q) (λ e. lit≤ tt) (λ e. lit≤ tt)
+  later-cost p q = by-test (λ (t : Stage). cost t ≤ 4) (tooSmall S p q) {a = AllBits} {b = Anchor First} (λ e. lit≤ tt) (λ e. lit≤ tt)
 
   first-cost : (p q : ℕ) → cost (firstStage S p q) ≤ 5
   unfolding firstStage
@@ -73,17 +81,17 @@ module _ (S : Settings) where
   trialOf-sane v p w ys none t e = let h = later-cost p (length ys) in omega arith
   trialOf-sane v p w ys (some b) t e = trial-sane v p w ys b t e
 
-  placed-sane : (p s : ℕ) (b : List Bool) (l : List ℕ) (o : Option ℕ) → Fit S p s → Sane S p (anchors (s ∷ l)) (placed s b l o)
-  placed-sane p s b l none f = omega arith
-  placed-sane p s b l (some r) f = (f, omega arith)
+  placed-sane : (p s : ℕ) (b : List Bool) (i : Attempt) (o : Option ℕ) → Fit S p s → Sane S p (Anchor i) (placed s b (afterAnchor i) o)
+  placed-sane p s b i none f = let e = after-later i in let h = before-most (afterAnchor i) in omega arith
+  placed-sane p s b i (some r) f = (f, let e = after-later i in let h = before-most (afterAnchor i) in omega arith)
 
-  pub sane : (a : Answer) (p : ℕ) (ys : List Bool) (t : Stage) → StageOk S p (length ys) t → Sane S p t (effect S a p ys t)
+  pub sane : (L : Limits S) (a : Answer) (p : ℕ) (ys : List Bool) (t : Stage) → StageOk S p (length ys) t → Sane S p t (effect S a p ys t)
   unfolding effect
-  sane a p ys hashing h = trial-sane (theHash a) p ByHash ys ys hashing refl
-  sane a p ys puttingIn h = trialOf-sane (theHash a) p ByPutIn ys (putIn (theSyndrome a) ys) puttingIn refl
-  sane a p ys takingOut h = trialOf-sane (theHash a) p ByTakeOut ys (takeOut (theSyndrome a) ys) takingOut refl
-  sane a p ys (anchors []) h = tt
-  sane a p ys (anchors (s ∷ l)) h = placed-sane p s (theBits a) l (place (S .m) (S .k) p s ys (theBits a)) (h .0)
+  sane L a p ys Hashing h = trial-sane (theHash a) p ByHash ys ys Hashing refl
+  sane L a p ys PuttingIn h = trialOf-sane (theHash a) p ByPutIn ys (putIn (theSyndrome a) ys) PuttingIn refl
+  sane L a p ys TakingOut h = trialOf-sane (theHash a) p ByTakeOut ys (takeOut (theSyndrome a) ys) TakingOut refl
+  sane L a p ys AllBits h = tt
+  sane L a p ys (Anchor i) h = placed-sane p (offset (S .m) p i) (theBits a) i (place (S .m) (S .k) p (offset (S .m) p i) ys (theBits a)) (offset-fits S L p i h)
 
 -- ---- questions: each answered one lowers the potential
 abbrev pub pot : Settings → Segment → ℕ
@@ -154,7 +162,7 @@ module _ (S : Settings) (L : Limits S) where
   cut p s f = let a = L .m-least in let b = f .room in split-div (S .m) s (p - (s + S .m)) p (omega arith) (omega arith)
 
   pub falls-pot : (p : ℕ) (ys : List Bool) (t : Stage) (e : Effect) → Sane S p t e → 1 + total (pot S) (made S p ys e) ≤ pot S (waiting p ys t)
-  falls-pot p ys t (settles w b) h = let k = cost-least t in omega arith
+  falls-pot p ys t (settles w b) h = let k = before-most t in omega arith
   falls-pot p ys t (stays u) h = omega arith
   falls-pot p ys t (splits s r b) h =
       let i = cut p s (h .0) in let j = begin-pot s (take r ys) in let k = begin-pot (p - (s + S .m)) (drop (r + S .m) ys) in let l = h .1 in omega arith
@@ -198,4 +206,4 @@ module _ (S : Settings) (L : Limits S) where
   step-nest a z x e [] g n k = (n, k)
   step-nest a z x e (dropped ys ∷ r) g n k = let i = step-nest a z (x + 0) e r (g .1) n (omega arith) in (i .0, let j = i .1 in omega arith)
   step-nest a z x e (settled w ys b ∷ r) g n k = let i = step-nest a z (x + length b) e r (g .1) n (omega arith) in (i .0, let j = i .1 in omega arith)
-  step-nest a z x e (waiting p ys t ∷ r) g n k = nest-work p ys t (effect S a p ys t) r (sane S a p ys t (g .0 .1)) (n .0) (n .1) k
+  step-nest a z x e (waiting p ys t ∷ r) g n k = nest-work p ys t (effect S a p ys t) r (sane S L a p ys t (g .0 .1)) (n .0) (n .1) k

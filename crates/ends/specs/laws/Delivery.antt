@@ -16,9 +16,9 @@ use Rattle.messages.specs.declared.Question.{Question}
 use Rattle.messages.specs.declared.Question.the-variants.{AskBits, AskHash, AskOpen, AskSyndrome}
 use Rattle.strings.specs.SettingLimits.{Limits, withinLimits}
 use Rattle.ends.specs.laws.Moves.{effectState, moved-effect, moved-opening}
-use Rattle.ends.specs.RebuilderCall.{Started, StringChange, clears, effectStep, freshRebuilder, keeps, noRow, numberedStage, openingStep, questionLength, rebuilderStart, sheetAfter, starts, stepOf, stringAfter, tallied, unlessStarted, wholeStep, writes}
+use Rattle.ends.specs.RebuilderCall.{Started, StringChange, clears, effectStep, freshRebuilder, keeps, noRow, openingStep, questionLength, rebuilderStart, sheetAfter, starts, stepOf, stringAfter, tallied, unlessStarted, wholeStep, writes}
 use Rattle.ends.specs.Runs.{Run, advance, judge, opening, question, sizeOf, string, whole, working}
-use Rattle.ends.specs.Segments.{Effect, Segment, Stage, anchors, ask, asks, dropped, effect, hashing, newRows, puttingIn, settled, settles, splits, stays, step, takingOut, theBits, theSize, waiting, waits}
+use Rattle.ends.specs.Segments.{Effect, Segment, Stage, ask, asks, dropped, effect, newRows, settled, settles, splits, stays, step, theBits, theSize, waiting, waits}
 use Rattle.ends.specs.laws.Shape.{Inside}
 use Rattle.strings.specs.laws.SettingLaws.{limits-is}
 use Rattle.ends.specs.laws.SoundParts.{PhaseOf, isOpening, isPieces, isWhole, phase-of, sound-is, top-is}
@@ -30,13 +30,14 @@ use Rattle.ends.specs.declared.Row.{Row}
 use Rattle.strings.specs.declared.settings.Settings.{Settings}
 use Rattle.ends.specs.declared.SheetChange.{SheetChange}
 use Rattle.ends.specs.declared.SheetChange.the-variants.{AddRow, NoRow, OneRow}
-use Rattle.strings.specs.Bits.{bytesFor, range}
+use Rattle.strings.specs.Bits.{bytesFor, range, maxBits}
 use Rattle.strings.specs.laws.PackLaws.{length-cleared}
 use Rattle.strings.specs.StringRule.{stringRule}
 use Rattle.strings.specs.laws.Tests.{by-test}
 use Rattle.strings.specs.laws.WriteLaws.{length-writeBits}
 use Rattle.strings.specs.declared.Refusal.{Refusal}
 use Rattle.strings.specs.declared.Refusal.the-variants.{BadSetting, BadString, BufferTooShort}
+use Rattle.ends.specs.declared.Stage.the-variants.{Hashing, PuttingIn, TakingOut, Anchor, AllBits}
 
 -- ---- questions
 abbrev pub NotOpen : Question → Type 0
@@ -46,11 +47,11 @@ NotOpen (AskSyndrome x p) = Unit {0}
 NotOpen (AskBits x p) = Unit {0}
 
 pub asks-not-open : (S : Settings) (x p : ℕ) (t : Stage) → NotOpen (asks S x p t)
-asks-not-open S x p hashing = tt
-asks-not-open S x p puttingIn = tt
-asks-not-open S x p takingOut = tt
-asks-not-open S x p (anchors []) = tt
-asks-not-open S x p (anchors (s ∷ l)) = tt
+asks-not-open S x p Hashing = tt
+asks-not-open S x p PuttingIn = tt
+asks-not-open S x p TakingOut = tt
+asks-not-open S x p (Anchor i) = tt
+asks-not-open S x p AllBits = tt
 
 pub ask-not-open : (S : Settings) (x : ℕ) (segs : List Segment) (q : Question) → ask S x segs ≡ some q → NotOpen q
 ask-not-open S x [] q k = let z : _≡_ {A = ℕ} 0 1 = cc in absurd (omega arith)
@@ -81,7 +82,7 @@ inside-range n (AskHash x p) o i = record { within = record { some = i .0; ends 
 inside-range n (AskSyndrome x p) o i = record { within = record { some = i .0; ends = i .1 }; key-most = omega arith }
 inside-range n (AskBits x p) o i = record { within = record { some = i .0; ends = i .1 }; key-most = omega arith }
 
-pub length-most : (n : ℕ) (q : Question) → n ≤ 65536 → InRange n q → questionLength q ≤ 65536
+pub length-most : (n : ℕ) (q : Question) → n ≤ maxBits → InRange n q → questionLength q ≤ maxBits
 length-most n (AskOpen h key) m r = omega arith
 length-most n (AskHash x p) m r = let e = r .within .ends in omega arith
 length-most n (AskSyndrome x p) m r = let e = r .within .ends in omega arith
@@ -123,9 +124,9 @@ step-answered st y q a size arr s k = let f = sound-is st s in go (phase-of st q
     go (isOpening p i e) = rw (step-opening st y size a p) (opening-answered st (theSize a) arr)
     go (isPieces p i w e) =
         let t = top-is st (i .stack) w in
-        let f = effect (st .settings) a (top st .p) (range y (top st .y) (top st .q)) (numberedStage (st .settings) (top st .p) (top st .q) (st .stage)) in
+        let f = effect (st .settings) a (top st .p) (range y (top st .y) (top st .q)) (st .stage) in
         rw (step-pieces st y size a p) (effect-answered st size f (moved-effect (st .settings) st refl arr w (t .few) f .answered))
-    go (isWhole p i e) = rw (step-whole st y size a (omega arith)) (whole-answered st size (theBits a))
+    go (isWhole p i e) = rw (step-whole st y size a p) (whole-answered st size (theBits a))
 
 -- ---- the start
 pub record StartedIs (S : Settings) (y : List ℕ) (bits room : ℕ) (r : Rebuilder) (q : List ℕ) : Type 0 where

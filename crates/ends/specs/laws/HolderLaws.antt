@@ -6,8 +6,8 @@ use mathlib.Core.List.{List}
 use Prim.Native.Nat.{ℕ, _+_, _≤_, _<_}
 use native.Mathlib.Omega.{arith}
 use lib.ListN.{length}
-use lib.Dec.{leb, ltb, eqb}
-use borrow.Author.Tests.{eqb-true, eq-eqb, ltb-true, leb-true, le-leb, ne-eqb}
+use lib.Dec.{leb, ltb}
+use borrow.Author.Tests.{ltb-true, leb-true, le-leb, not-true}
 use Rattle.messages.specs.laws.QuestionLaws.{Within, OpeningWithin, fields-within}
 use Rattle.messages.specs.Answers.{answerBytes}
 use Rattle.messages.specs.Kinds.{kindAt}
@@ -23,9 +23,9 @@ use Rattle.messages.specs.declared.QuestionRead.the-variants.{Asked, NoQuestion
 use Rattle.ends.specs.HolderCall.{Heard, afterAnswer, answersTo, freshHolder, holderCall, inTurn, ofKind, replies, sameBitCount, sends, unlessHeard}
 use Rattle.strings.specs.SettingLimits.{between}
 use Rattle.ends.specs.Runs.{answer}
-use Rattle.ends.specs.Soundness.{holderSound}
+use Rattle.ends.specs.Soundness.{holderSound, mostAnswers}
 use Rattle.ends.specs.declared.Holder.{Holder}
-use Rattle.strings.specs.Bits.{range}
+use Rattle.strings.specs.Bits.{range, maxBits}
 use Rattle.strings.specs.laws.RuleLaws.{rule-is}
 use Rattle.strings.specs.StringRule.{stringRule}
 use Rattle.strings.specs.laws.Tests.{and-left, both}
@@ -34,9 +34,9 @@ use Rattle.strings.specs.declared.Refusal.the-variants.{BadString, BufferTooSho
 
 -- ---- a call of the holder that was answered
 pub record HeardCall (st : Holder) (x : List ℕ) (bits : ℕ) (msg : List ℕ) (room : ℕ) (next : Holder) (reply : List ℕ) : Type 0 where
-  pub few : bits ≤ 65536
+  pub few : bits ≤ maxBits
   pub sound-before : holderSound st ≡ true
-  pub left : st .answers < 1000000
+  pub left : st .answers < mostAnswers
   pub kind : Kind
   pub at : ℕ
   pub known : kindAt msg ≡ Known kind at
@@ -55,12 +55,12 @@ module _ (st : Holder) (x : List ℕ) (bits : ℕ) (msg : List ℕ) (room : ℕ)
   unfolding holderCall sends
   heard-call e =
       let u = unless-heard (stringRule x bits && sameBitCount st bits) BadString _ next reply e in
-      let v = unless-heard (holderSound st && ltb (st .answers) 1000000) OutOfTurn _ next reply (u .1) in
+      let v = unless-heard (holderSound st && ltb (st .answers) mostAnswers) OutOfTurn _ next reply (u .1) in
       let r = rule-is x bits (and-left (stringRule x bits) (sameBitCount st bits) (u .0)) in
-      let w = both (holderSound st) (ltb (st .answers) 1000000) (v .0) in
-      go (r .few) (w .0) (ltb-true (st .answers) 1000000 (w .1)) (kindAt msg) refl (v .1)
+      let w = both (holderSound st) (ltb (st .answers) mostAnswers) (v .0) in
+      go (r .few) (w .0) (ltb-true (st .answers) mostAnswers (w .1)) (kindAt msg) refl (v .1)
     where
-      go : bits ≤ 65536 → holderSound st ≡ true → st .answers < 1000000 → (k : KindRead) → kindAt msg ≡ k → ofKind st x bits msg room k ≡ replies next reply → HeardCall st x bits msg room next reply
+      go : bits ≤ maxBits → holderSound st ≡ true → st .answers < mostAnswers → (k : KindRead) → kindAt msg ≡ k → ofKind st x bits msg room k ≡ replies next reply → HeardCall st x bits msg room next reply
       go f s l (NoKind d) k e = let z : _≡_ {A = ℕ} 0 1 = cc in absurd (omega arith)
       go f s l (Known kd at) k e =
           let u = unless-heard (inTurn (st .opened) kd) OutOfTurn _ next reply e in
@@ -76,65 +76,61 @@ module _ (st : Holder) (x : List ℕ) (bits : ℕ) (msg : List ℕ) (room : ℕ)
 
 -- ---- soundness
 pub record OpenedIs (st : Holder) : Type 0 where
-  pub opened : st .opened ≡ 1
-  pub bits : st .bits ≤ 65536
+  pub opened : st .opened ≡ true
+  pub bits : st .bits ≤ maxBits
   pub h-least : 8 ≤ st .h
   pub h-most : st .h ≤ 32
   pub key-least : 1 ≤ st .key
   pub answers-least : 1 ≤ st .answers
-  pub answers-most : st .answers ≤ 1000000
+  pub answers-most : st .answers ≤ mostAnswers
 
 pub opened-sound : (st : Holder) → OpenedIs st → holderSound st ≡ true
 unfolding holderSound
 opened-sound st k =
-    let o = k .opened in
     rw (
-      ne-eqb (st .opened) 0 (λ z. omega arith),
-      eq-eqb (st .opened) 1 (k .opened),
-      le-leb (st .bits) 65536 (k .bits),
+      k .opened,
+      le-leb (st .bits) maxBits (k .bits),
       le-leb 8 (st .h) (k .h-least),
       le-leb (st .h) 32 (k .h-most),
       le-leb 1 (st .key) (k .key-least),
       le-leb 1 (st .answers) (k .answers-least),
-      le-leb (st .answers) 1000000 (k .answers-most),
+      le-leb (st .answers) mostAnswers (k .answers-most),
     ) refl
 
-pub sound-opened : (st : Holder) → holderSound st ≡ true → st .opened ≡ 1 → OpenedIs st
+pub sound-opened : (st : Holder) → holderSound st ≡ true → st .opened ≡ true → OpenedIs st
 unfolding holderSound
 sound-opened st s e =
-    let z : eqb (st .opened) 0 ≡ false = ne-eqb (st .opened) 0 (λ w. omega arith) in
-    let a = both (eqb (st .opened) 1) (leb (st .bits) 65536 && (between 8 (st .h) 32 && (leb 1 (st .key) && between 1 (st .answers) 1000000))) (rw z at s) in
-    let b = both (leb (st .bits) 65536) (between 8 (st .h) 32 && (leb 1 (st .key) && between 1 (st .answers) 1000000)) (a .1) in
-    let c = both (between 8 (st .h) 32) (leb 1 (st .key) && between 1 (st .answers) 1000000) (b .1) in
-    let d = both (leb 1 (st .key)) (between 1 (st .answers) 1000000) (c .1) in
+    let b = both (leb (st .bits) maxBits) (between 8 (st .h) 32 && (leb 1 (st .key) && between 1 (st .answers) mostAnswers)) (rw e at s) in
+    let c = both (between 8 (st .h) 32) (leb 1 (st .key) && between 1 (st .answers) mostAnswers) (b .1) in
+    let d = both (leb 1 (st .key)) (between 1 (st .answers) mostAnswers) (c .1) in
     let f = both (leb 8 (st .h)) (leb (st .h) 32) (c .0) in
-    let g = both (leb 1 (st .answers)) (leb (st .answers) 1000000) (d .1) in
+    let g = both (leb 1 (st .answers)) (leb (st .answers) mostAnswers) (d .1) in
     record {
       opened = e;
-      bits = leb-true (st .bits) 65536 (b .0);
+      bits = leb-true (st .bits) maxBits (b .0);
       h-least = leb-true 8 (st .h) (f .0);
       h-most = leb-true (st .h) 32 (f .1);
       key-least = leb-true 1 (st .key) (d .0);
       answers-least = leb-true 1 (st .answers) (g .0);
-      answers-most = leb-true (st .answers) 1000000 (g .1);
+      answers-most = leb-true (st .answers) mostAnswers (g .1);
     }
 
 -- a kind in turn tells whether the holder has opened
-turn-open : (o : ℕ) (k : Kind) → inTurn o k ≡ true → ((k ≡ Open) × (o ≡ 0)) ⊎ ((k ≡ Open → ⊥) × (o ≡ 1))
-turn-open o Open e = inl (refl, eqb-true o 0 e)
-turn-open o Hash e = inr ((λ d. let z : _≡_ {A = ℕ} 0 1 = cc in omega arith), eqb-true o 1 e)
-turn-open o Syndrome e = inr ((λ d. let z : _≡_ {A = ℕ} 0 1 = cc in omega arith), eqb-true o 1 e)
-turn-open o Bits e = inr ((λ d. let z : _≡_ {A = ℕ} 0 1 = cc in omega arith), eqb-true o 1 e)
+turn-open : (o : Bool) (k : Kind) → inTurn o k ≡ true → ((k ≡ Open) × (o ≡ false)) ⊎ ((k ≡ Open → ⊥) × (o ≡ true))
+turn-open o Open e = inl (refl, not-true o e)
+turn-open o Hash e = inr ((λ d. let z : _≡_ {A = ℕ} 0 1 = cc in omega arith), e)
+turn-open o Syndrome e = inr ((λ d. let z : _≡_ {A = ℕ} 0 1 = cc in omega arith), e)
+turn-open o Bits e = inr ((λ d. let z : _≡_ {A = ℕ} 0 1 = cc in omega arith), e)
 
 -- what an answered call makes of the state: it opens, or counts one more
 pub data Made (st : Holder) (bits : ℕ) (q : Question) (next : Holder) : Type 0 where
-  opens : st .opened ≡ 0 → (h key : ℕ) → AskOpen h key ≡ q → OpeningWithin h key → next ≡ record { opened = 1; bits = bits; h = h; key = key; answers = 1 } → Made st bits q next
-  counts : st .opened ≡ 1 → (questionKind q ≡ Open → ⊥) → next ≡ record { opened = st .opened; bits = st .bits; h = st .h; key = st .key; answers = st .answers + 1 } → Made st bits q next
+  opens : st .opened ≡ false → (h key : ℕ) → AskOpen h key ≡ q → OpeningWithin h key → next ≡ record { opened = true; bits = bits; h = h; key = key; answers = 1 } → Made st bits q next
+  counts : st .opened ≡ true → (questionKind q ≡ Open → ⊥) → next ≡ record { opened = st .opened; bits = st .bits; h = st .h; key = st .key; answers = st .answers + 1 } → Made st bits q next
 
 pub heard-made : (st : Holder) (x : List ℕ) (bits : ℕ) (msg : List ℕ) (room : ℕ) (next : Holder) (reply : List ℕ) (k : HeardCall st x bits msg room next reply) → Made st bits (k .q) next
 heard-made st x bits msg room next reply k = go (k .q) (turn-open (st .opened) (k .kind) (k .turn)) (fields-within (k .kind) msg (k .at) bits (k .q) (k .fields)) (k .after)
   where
-    go : (q : Question) → ((k .kind ≡ Open) × (st .opened ≡ 0)) ⊎ ((k .kind ≡ Open → ⊥) × (st .opened ≡ 1)) → (questionKind q ≡ k .kind) × Within bits q → next ≡ afterAnswer st bits q → Made st bits q next
+    go : (q : Question) → ((k .kind ≡ Open) × (st .opened ≡ false)) ⊎ ((k .kind ≡ Open → ⊥) × (st .opened ≡ true)) → (questionKind q ≡ k .kind) × Within bits q → next ≡ afterAnswer st bits q → Made st bits q next
     go (AskOpen h key) (inl t) w e = opens (t .1) h key refl (w .1) e
     go (AskOpen h key) (inr t) w e = absurd (t .0 (sym (w .0)))
     go (AskHash s l) (inl t) w e = let d = w .0 ∙ t .0 in let z : _≡_ {A = ℕ} 0 1 = cc in absurd (omega arith)
@@ -150,7 +146,7 @@ holder-sound st x bits msg room next reply e =
     let k = heard-call st x bits msg room next reply e in
     go (k .few) (k .left) (k .sound-before) (heard-made st x bits msg room next reply k)
   where
-    go : {q : Question} → bits ≤ 65536 → st .answers < 1000000 → holderSound st ≡ true → Made st bits q next → OpenedIs next
+    go : {q : Question} → bits ≤ maxBits → st .answers < mostAnswers → holderSound st ≡ true → Made st bits q next → OpenedIs next
     go f l s (opens o h key d w e) = rw e record { opened = refl; bits = f; h-least = w .h-least; h-most = w .h-most; key-least = w .key-least; answers-least = omega arith; answers-most = omega arith }
     go f l s (counts o n e) =
         let i = sound-opened st s o in

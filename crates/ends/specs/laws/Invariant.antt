@@ -17,7 +17,7 @@ use Rattle.messages.specs.Answers.{Answer}
 use Rattle.messages.specs.declared.Question.{Question}
 use Rattle.messages.specs.declared.Question.the-variants.{AskBits, AskHash, AskOpen, AskSyndrome}
 use Rattle.ends.specs.Anchors.{part}
-use Rattle.ends.specs.laws.Counts.{Nest, begin-copy, begin-nest, begin-norow, begin-pot, begin-rows, begin-wait, cost-least, falls-pot, falls-rows, keeps-copy, pot, rowCost, sane, step-nest}
+use Rattle.ends.specs.laws.Counts.{Nest, begin-copy, begin-nest, begin-norow, begin-pot, begin-rows, begin-wait, before-most, falls-pot, falls-rows, keeps-copy, pot, rowCost, sane, step-nest}
 use Rattle.ends.specs.Claims.{isWait, rowSum, total}
 use Rattle.strings.specs.SettingLimits.{Limits}
 use Rattle.ends.specs.laws.Right.{Good, begin-ok, begin-span, one, part-length, settled-right, work-ok}
@@ -29,6 +29,7 @@ use Rattle.ends.specs.declared.How.the-variants.{ByBits}
 use Rattle.ends.specs.declared.Row.{Row}
 use Rattle.strings.specs.declared.settings.Settings.{Settings}
 use Rattle.strings.specs.laws.Tests.{by-test, true-false}
+use Rattle.strings.specs.Bits.{maxBits}
 
 -- how many bits the reference has, as far as the run knows
 abbrev pub sizeOfRun : Run → ℕ
@@ -49,7 +50,7 @@ hash-most S l = hash-below (S .h) (S .key) l
 -- ---- what holds all along, whatever proper answers were taken
 module _ (S : Settings) (Y : List Bool) where
   pub record Held (n : ℕ) (segs : List Segment) (rows : List Row) : Type 0 where
-    pub size : n ≤ 65536
+    pub size : n ≤ maxBits
     pub tiles : Chain (Shape S n) 0 segs n
     pub copy : copies segs ≡ Y
     pub nest : Nest segs
@@ -65,7 +66,7 @@ module _ (S : Settings) (Y : List Bool) where
       Held n segs rows × (asked + 1 ≤ 9 * (n / S .m) + 6) × (c ≤ S .ceiling + max 9 (full n)) × (waits segs ≡ true)
 
   module _ (L : Limits S) where
-    start-ok : (n : ℕ) → n ≤ 65536 → Inv 1 (working n 0 (begin S n Y ∷ []) [])
+    start-ok : (n : ℕ) → n ≤ maxBits → Inv 1 (working n 0 (begin S n Y ∷ []) [])
     start-ok n nX =
         let b = begin-span S L n Y in
         let p = begin-pot S L n Y in
@@ -100,7 +101,7 @@ module _ (S : Settings) (Y : List Bool) where
           nest = nest .0;
           few = nest .1;
           rowsFew =
-              let f = step-falls S a (Shape S n) (rowCost S) 0 (λ x p ys t g. falls-rows S L p ys t (effect S a p ys t) (sane S a p ys t (g .1))) 0 n segs (h .tiles) (ask-waits S q 0 segs k) in
+              let f = step-falls S a (Shape S n) (rowCost S) 0 (λ x p ys t g. falls-rows S L p ys t (effect S a p ys t) (sane S L a p ys t (g .1))) 0 n segs (h .tiles) (ask-waits S q 0 segs k) in
               let r = h .rowsFew in omega arith;
           rowsAre = λ g.
               let e = step-rows S a (Shape S n) g q (λ x p ys t d i. let c = chain-end (Shape S n) x (x + p) (work S a p ys t) (work-chain n q a o x p ys t d i) in omega arith) 0 n segs (h .tiles) k in
@@ -113,7 +114,7 @@ module _ (S : Settings) (Y : List Bool) where
     waits-pot [] e = let z : _≡_ {A = ℕ} 0 1 = cc in absurd (omega arith)
     waits-pot (dropped ys ∷ r) e = let h = waits-pot r e in omega arith
     waits-pot (settled w ys b ∷ r) e = let h = waits-pot r e in omega arith
-    waits-pot (waiting p ys t ∷ r) e = let h = cost-least t in omega arith
+    waits-pot (waiting p ys t ∷ r) e = let h = before-most t in omega arith
 
     judge-ok : (asked n c : ℕ) (segs : List Segment) (rows : List Row) → Held n segs rows → asked + total (pot S) segs ≤ 9 * (n / S .m) + 6 → c ≤ S .ceiling + max 9 (full n)
         → Inv asked (judge S n c segs rows)
@@ -165,7 +166,7 @@ module _ (S : Settings) (Y : List Bool) where
         let i = question-inside asked (working n c segs rows) q h k in
         let z = sizes S n (h .0 .size) q a i o in
         let w = ask-waits S q 0 segs k in
-        let d = step-falls S a (Shape S n) (pot S) 1 (λ x p ys t g. falls-pot S L p ys t (effect S a p ys t) (sane S a p ys t (g .1))) 0 n segs (h .0 .tiles) w in
+        let d = step-falls S a (Shape S n) (pot S) 1 (λ x p ys t g. falls-pot S L p ys t (effect S a p ys t) (sane S L a p ys t (g .1))) 0 n segs (h .0 .tiles) w in
         let p = h .1 in let b = h .3 w in
         judge-ok (asked + 1) n (c + sizeOf a) (step S a segs) (rows ++ newRows S a 0 segs) (step-held n segs rows q a k o (h .0)) (omega arith) (omega arith)
     advance-ok asked (whole n c segs rows) q a k o h =
@@ -177,7 +178,7 @@ Truth S X opening = Unit {0}
 Truth S X (working n c segs rows) = (n ≡ length X) × Chain (Good S X) 0 segs n
 Truth S X (whole n c segs rows) = (n ≡ length X) × Chain (Good S X) 0 segs n
 
-module _ (S : Settings) (X Y : List Bool) (L : Limits S) (nX : length X ≤ 65536) where
+module _ (S : Settings) (X Y : List Bool) (L : Limits S) (nX : length X ≤ maxBits) where
   judge-true : (n c : ℕ) (segs : List Segment) (rows : List Row) → (n ≡ length X) × Chain (Good S X) 0 segs n → Truth S X (judge S n c segs rows)
   unfolding judge
   judge-true n c segs rows h = by-test (Truth S X) (ltb (S .ceiling) c && waits segs) {a = whole n c segs rows} {b = working n c segs rows} (λ e. h) (λ e. h)

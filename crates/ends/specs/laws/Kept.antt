@@ -26,6 +26,7 @@ use Rattle.ends.specs.declared.How.{How}
 use Rattle.ends.specs.declared.Row.{Row}
 use Rattle.strings.specs.declared.settings.Settings.{Settings}
 use Rattle.strings.specs.laws.Tests.{by-test, true-false}
+use Rattle.strings.specs.Bits.{maxBits}
 
 pub chain-at : (P : ℕ → Segment → Type 0) (x e : ℕ) (segs : List Segment) (y : ℕ) (s : Segment) → Chain P x segs e → At x segs y s → P y s
 chain-at P x e [] y s h a = absurd a
@@ -196,7 +197,7 @@ module _ (S : Settings) (Y : List Bool) where
   count-is (a ∷ []) = refl
   count-is (a ∷ b ∷ l) = counted (run S Y (b ∷ l)) a (opened (run S Y l) b) ∙ ap (λ (n : ℕ). sizeOf a + n) (count-is (b ∷ l))
 
-module _ (S : Settings) (X Y : List Bool) (L : Limits S) (nX : length X ≤ 65536) where
+module _ (S : Settings) (X Y : List Bool) (L : Limits S) (nX : length X ≤ maxBits) where
   finished : (n : ℕ) (segs : List Segment) (rows : List Row) → Held S Y n segs rows → (n ≡ length X) × Chain (Good S X) 0 segs n → ask S 0 segs ≡ none
       → (length (string segs) ≡ length X) × ((i : ℕ) → i < length X → (getD (string segs) i false ≡ getD X i false) ⊎ Slip S X 0 segs i) × ((i : ℕ) → i < length X → rowSum (covers i) rows ≡ 1)
   finished n segs rows h t k =

@@ -25,6 +25,7 @@ use Rattle.ends.specs.declared.How.{How}
 use Rattle.ends.specs.declared.Row.{Row}
 use Rattle.strings.specs.declared.settings.Settings.{Settings}
 use Rattle.strings.specs.laws.Tests.{by-test}
+use Rattle.strings.specs.Bits.{maxBits}
 
 at-right : (x : ℕ) (l r : List Segment) (y : ℕ) (s : Segment) → At (x + total span l) r y s → At x (l ++ r) y s
 at-right x [] r y s h = rw (add-zero x) at h
@@ -45,7 +46,7 @@ module _ (S : Settings) (a : Answer) (P : ℕ → Segment → Type 0) where
   step-at q k x e (waiting p zs t ∷ r) h i y w ys b (inl c) = let z : _≡_ {A = ℕ} 0 1 = let d = c .1 in cc in absurd (omega arith)
   step-at q k x e (waiting p zs t ∷ r) h i y w ys b (inr c) = at-right x (work S a p zs t) r y (settled w ys b) (rw (k x p zs t (h .0) (cc)) c)
 
-module _ (S : Settings) (X Y : List Bool) (L : Limits S) (nX : length X ≤ 65536) where
+module _ (S : Settings) (X Y : List Bool) (L : Limits S) (nX : length X ≤ maxBits) where
   judge-pieces : (n c : ℕ) (segs : List Segment) (rows : List Row) → piecesOf (judge S n c segs rows) ≡ segs
   unfolding judge
   judge-pieces n c segs rows = by-test (λ (s : Run). piecesOf s ≡ segs) (ltb (S .ceiling) c && waits segs) {a = whole n c segs rows} {b = working n c segs rows} (λ e. refl) (λ e. refl)

@@ -10,7 +10,7 @@ use lib.ListN.{set, length-set, length, getD}
 use lib.Seq.{getD-set-same, getD-set-other}
 use lib.Dec.{eqb}
 use Rattle.ends.specs.Runs.{blank}
-use Rattle.ends.specs.Segments.{Effect, settles, splits, stays, waiting}
+use Rattle.ends.specs.Segments.{Effect, settles, splits, stays}
 use Rattle.ends.specs.laws.StackLaws.{held-push, held-set}
 use Rattle.ends.specs.RebuilderCall.{openedState, openingStep}
 use Rattle.ends.specs.States.{held, leftPiece, noPiece, popped, pushed, restaged, retried, rightPiece, splitAt, stacked, top}
@@ -19,6 +19,7 @@ use Rattle.ends.specs.declared.Piece.{Piece}
 use Rattle.ends.specs.declared.Rebuilder.{Rebuilder}
 use Rattle.strings.specs.declared.settings.Settings.{Settings}
 use Rattle.strings.specs.laws.Tests.{by-test}
+use Rattle.ends.specs.declared.Stage.{Stage}
 
 -- every entry from index w on is empty
 abbrev pub Blank : List Piece → ℕ → Type 0
@@ -42,11 +43,11 @@ pub record Moved (st s : Rebuilder) (l : List Piece) : Type 0 where
   pub few : s .waiting ≤ 32
   pub blank : Blank (st .pieces) (st .waiting) → Blank (s .pieces) (s .waiting)
 
-moved-stack : (st : Rebuilder) (t w : ℕ) (arr l : List Piece) → length arr ≡ 32 → held w arr ≡ l → w ≤ 32 → (Blank (st .pieces) (st .waiting) → Blank arr w) → Moved st (stacked st t w arr) l
+moved-stack : (st : Rebuilder) (t : Stage) (w : ℕ) (arr l : List Piece) → length arr ≡ 32 → held w arr ≡ l → w ≤ 32 → (Blank (st .pieces) (st .waiting) → Blank arr w) → Moved st (stacked st t w arr) l
 moved-stack st t w arr l a h f b = record { settings = refl; ybits = refl; phase = refl; n = refl; answered = refl; counted = refl; rows = refl; array = a; stack = h; few = f; blank = b }
 
 -- at another stage
-moved-stage : (st : Rebuilder) (t : ℕ) → length (st .pieces) ≡ 32 → st .waiting ≤ 32 → Moved st (stacked st t (st .waiting) (st .pieces)) (held (st .waiting) (st .pieces))
+moved-stage : (st : Rebuilder) (t : Stage) → length (st .pieces) ≡ 32 → st .waiting ≤ 32 → Moved st (stacked st t (st .waiting) (st .pieces)) (held (st .waiting) (st .pieces))
 moved-stage st t arr few = moved-stack st t (st .waiting) (st .pieces) _ arr refl few (λ b. b)
 
 pub moved-then : (st s u : Rebuilder) (l k : List Piece) → Moved st s l → Moved s u k → Moved st u k

@@ -15,12 +15,15 @@ use Rattle.ends.specs.Anchors.{part, place}
 use Rattle.strings.specs.SettingLimits.{Limits}
 use Rattle.ends.specs.Runs.{told}
 use Rattle.ends.specs.laws.SegmentLaws.{Chain}
-use Rattle.ends.specs.Segments.{Effect, Segment, Stage, anchors, asks, begin, dropped, effect, firstStage, hashOf, hashing, laterStage, made, placed, puttingIn, retry, settled, span, takingOut, tooSmall, trial, trialOf, waiting, work}
+use Rattle.ends.specs.Segments.{Effect, Segment, Stage, asks, begin, dropped, effect, firstStage, hashOf, laterStage, made, placed, retry, settled, span, tooSmall, trial, trialOf, waiting, work, afterAnchor}
 use Rattle.ends.specs.declared.How.{How}
 use Rattle.ends.specs.declared.How.the-variants.{ByAnchor, ByBits, ByHash, ByPutIn, ByTakeOut}
 use Rattle.strings.specs.declared.settings.Settings.{Settings}
 use Rattle.strings.specs.laws.Tests.{by-test}
 use Rattle.ends.specs.Claims.{Agrees, Near, Settled, oneAdded, oneLost, unchanged}
+use Rattle.ends.specs.declared.Stage.the-variants.{Hashing, PuttingIn, TakingOut, Anchor, AllBits}
+use Rattle.ends.specs.declared.Attempt.{Attempt}
+use Rattle.ends.specs.declared.Attempt.the-variants.{First, Second, Third}
 
 -- a right piece, whatever its copy
 pub settled-right : (S : Settings) (x : List Bool) (w : How) (ys b : List Bool) → Agrees S w x b → b ≡ x → Settled S x w ys b
@@ -49,15 +52,16 @@ pub record Fit (S : Settings) (p s : ℕ) : Type 0 where
   pub left : 8 * s ≤ 5 * p
   pub right : 8 * (p - (s + S .m)) ≤ 5 * p
 
-abbrev pub Fits : Settings → ℕ → List ℕ → Type 0
-Fits S p [] = Unit {0}
-Fits S p (s ∷ l) = Fit S p s × Fits S p l
+-- a piece that is long enough for anchors
+abbrev pub Long : Settings → ℕ → Type 0
+Long S p = 4 * (S .m + S .h) ≤ p
 
 abbrev pub StageOk : Settings → ℕ → ℕ → Stage → Type 0
-StageOk S p q hashing = q ≡ p
-StageOk S p q puttingIn = q + 1 ≡ p
-StageOk S p q takingOut = q ≡ p + 1
-StageOk S p q (anchors l) = Fits S p l
+StageOk S p q Hashing = q ≡ p
+StageOk S p q PuttingIn = q + 1 ≡ p
+StageOk S p q TakingOut = q ≡ p + 1
+StageOk S p q (Anchor i) = Long S p
+StageOk S p q AllBits = Unit {0}
 
 -- the piece that starts at x of the reference X
 abbrev pub Good : Settings → List Bool → ℕ → Segment → Type 0
@@ -71,18 +75,22 @@ or-false false true e = let z : _≡_ {A = ℕ} 0 1 = cc in absurd (omega arith)
 or-false false false e = (refl, refl)
 
 module _ (S : Settings) (L : Limits S) where
+  pub long-is : (p q : ℕ) → tooSmall S p q ≡ false → Long S p
+  long-is p q e = ltb-false p (4 * (S .m + S .h)) (or-false (ltb p (4 * (S .m + S .h))) (ltb q (S .m)) e .0)
+
+  pub offset-fits : (p : ℕ) (i : Attempt) → Long S p → Fit S p (offset (S .m) p i)
+  offset-fits p First k = let a = L .m-least in let b = L .h-least in record { big = omega arith; room = omega arith; left = omega arith; right = omega arith }
+  offset-fits p Second k = let a = L .m-least in let b = L .h-least in record { big = omega arith; room = omega arith; left = omega arith; right = omega arith }
+  offset-fits p Third k = let a = L .m-least in let b = L .h-least in record { big = omega arith; room = omega arith; left = omega arith; right = omega arith }
+
+  pub after-ok : (p q : ℕ) (i : Attempt) → Long S p → StageOk S p q (afterAnchor i)
+  after-ok p q First k = k
+  after-ok p q Second k = k
+  after-ok p q Third k = tt
+
   pub later-ok : (p q : ℕ) → StageOk S p q (laterStage S p q)
   unfolding laterStage
-  later-ok p q = by-test (λ (l : List ℕ). Fits S p l) (tooSmall S p q) (λ e. tt) (λ e.
-      let o = or-false (ltb p (4 * (S .m + S .h))) (ltb q (S .m)) e in
-      let k : 4 * (S .m + S .h) ≤ p = ltb-false p (4 * (S .m + S .h)) (o .0) in
-      let a = L .m-least in let b = L .h-least in (
-        record { big = omega arith; room = omega arith; left = omega arith; right = omega arith },
-        (
-          record { big = omega arith; room = omega arith; left = omega arith; right = omega arith },
-          (record { big = omega arith; room = omega arith; left = omega arith; right = omega arith }, tt),
-        ),
-      ))
+  later-ok p q = by-test (StageOk S p q) (tooSmall S p q) {a = AllBits} {b = Anchor First} (λ e. tt) (λ e. long-is p q e)
 
   pub first-ok : (p q : ℕ) → StageOk S p q (firstStage S p q)
   unfolding firstStage
@@ -131,19 +139,19 @@ module _ (S : Settings) (L : Limits S) where
     trialOf-ok x p w ys none h o k = again x p ys h o
     trialOf-ok x p w ys (some b) h o k = trial-ok x p w ys b h o (k b refl .0) (k b refl .1)
 
-    placed-ok : (x p s : ℕ) (ys : List Bool) (l : List ℕ) (o : Option ℕ) → x + p ≤ length X → 0 < p → Fit S p s → Fits S p l
-        → Fine x p ys (placed s (part X (x + s) (S .m)) l o)
-    placed-ok x p s ys l none h o f k = ((h, k, o), refl)
-    placed-ok x p s ys l (some r) h o f k =
+    placed-ok : (x p s : ℕ) (ys : List Bool) (u : Stage) (o : Option ℕ) → x + p ≤ length X → 0 < p → Fit S p s → StageOk S p (length ys) u
+        → Fine x p ys (placed s (part X (x + s) (S .m)) u o)
+    placed-ok x p s ys u none h o f k = ((h, k, o), refl)
+    placed-ok x p s ys u (some r) h o f k =
         let m = S .m in
         let b = part X (x + s) m in
         let q = f .room in
         let e : length b ≡ m = part-length (x + s) m (omega arith) in
-        let u = begin-span s (take r ys) in
+        let c = begin-span s (take r ys) in
         let v = begin-span (p - (s + m)) (drop (r + m) ys) in (
           begin-ok X x s (take r ys) (omega arith),
           (
-            (omega arith, rw (u, e) (settled-right S (part X (x + s) (S .m)) ByAnchor (part ys r (S .m)) (part X (x + s) (S .m)) refl refl)),
+            (omega arith, rw (c, e) (settled-right S (part X (x + s) (S .m)) ByAnchor (part ys r (S .m)) (part X (x + s) (S .m)) refl refl)),
             (
               begin-ok X (x + span (begin S s (take r ys)) + length b) (p - (s + m)) (drop (r + m) ys) (omega arith),
               omega arith,
@@ -154,10 +162,10 @@ module _ (S : Settings) (L : Limits S) where
     pub work-ok : (x p : ℕ) (ys : List Bool) (t : Stage) → Good S X x (waiting p ys t)
         → Chain (Good S X) x (work S (told S X (asks S x p t)) p ys t) (x + p)
     unfolding effect hashOf
-    work-ok x p ys hashing h =
+    work-ok x p ys Hashing h =
         let l = part-length x p (h .0) in let e = h .1 in
         trial-ok x p ByHash ys ys (h .0) (h .2) (h .1) (λ q. record { len = omega arith; agrees = q; exact = near-same (part X x p) ys (omega arith) })
-    work-ok x p ys puttingIn h =
+    work-ok x p ys PuttingIn h =
         let l = part-length x p (h .0) in let e = h .1 in
         let a = syndrome (part X x p) in
         trialOf-ok x p ByPutIn ys (putIn a ys) (h .0) (h .2) (λ b k.
@@ -169,7 +177,7 @@ module _ (S : Settings) (L : Limits S) where
             exact = λ d. let r = put-in-repairs ys (part X x p) (near-lost (part X x p) ys (omega arith) d) in cc;
           },
         ))
-    work-ok x p ys takingOut h =
+    work-ok x p ys TakingOut h =
         let l = part-length x p (h .0) in let e = h .1 in
         let a = syndrome (part X x p) in
         trialOf-ok x p ByTakeOut ys (takeOut a ys) (h .0) (h .2) (λ b k.
@@ -181,7 +189,9 @@ module _ (S : Settings) (L : Limits S) where
             exact = λ d. let r = take-out-repairs (part X x p) ys (near-added (part X x p) ys (omega arith) d) in cc;
           },
         ))
-    work-ok x p ys (anchors []) h =
+    work-ok x p ys AllBits h =
         let l = part-length x p (h .0) in
         one x p ByBits ys (part X x p) (h .0) l (settled-right S (part X x p) ByBits ys (part X x p) refl refl)
-    work-ok x p ys (anchors (s ∷ l)) h = placed-ok x p s ys l (place (S .m) (S .k) p s ys (part X (x + s) (S .m))) (h .0) (h .2) (h .1 .0) (h .1 .1)
+    work-ok x p ys (Anchor i) h =
+        let s = offset (S .m) p i in
+        placed-ok x p s ys (afterAnchor i) (place (S .m) (S .k) p s ys (part X (x + s) (S .m))) (h .0) (h .2) (offset-fits p i (h .1)) (after-ok p (length ys) i (h .1))

@@ -1,7 +1,7 @@
 -- What the pieces keep, whatever a reader lets through as an answer.
 use mathlib.Core.Path.{_≡_, refl, ap, _∙_, subst}
 use mathlib.Core.Bool.{Bool}
-use mathlib.Core.List.{List, [], _∷_}
+use mathlib.Core.List.{List, _∷_}
 use mathlib.Core.Option.{Option, none, some}
 use Prim.Native.Nat.{ℕ, zero, suc, _+_, _-_, max, _≤_, _<_}
 use native.Mathlib.Omega.{arith}
@@ -18,14 +18,16 @@ use Rattle.messages.specs.declared.Question.the-variants.{AskBits, AskHash, Ask
 use Rattle.ends.specs.Anchors.{place}
 use Rattle.strings.specs.SettingLimits.{Limits}
 use Rattle.ends.specs.RebuilderCall.{questionLength}
-use Rattle.ends.specs.laws.Right.{Fit, Fits, StageOk, begin-span, first-ok, later-ok}
+use Rattle.ends.specs.laws.Right.{Fit, StageOk, after-ok, begin-span, first-ok, later-ok, offset-fits}
 use Rattle.ends.specs.Runs.{sizeOf, full}
 use Rattle.ends.specs.laws.SegmentLaws.{Chain}
-use Rattle.ends.specs.Segments.{Effect, Segment, Stage, anchors, asks, begin, dropped, effect, hashOf, hashing, made, placed, puttingIn, retry, settled, settles, span, takingOut, theBits, theHash, theSize, theSyndrome, trial, trialOf, waiting, work}
+use Rattle.ends.specs.Segments.{Effect, Segment, Stage, asks, begin, dropped, effect, hashOf, made, placed, retry, settled, settles, span, theBits, theHash, theSize, theSyndrome, trial, trialOf, waiting, work, offset, afterAnchor}
 use Rattle.ends.specs.declared.How.{How}
 use Rattle.ends.specs.declared.How.the-variants.{ByHash, ByPutIn, ByTakeOut}
 use Rattle.strings.specs.declared.settings.Settings.{Settings}
 use Rattle.strings.specs.laws.Tests.{by-test}
+use Rattle.ends.specs.declared.Stage.the-variants.{Hashing, PuttingIn, TakingOut, Anchor, AllBits}
+use Rattle.strings.specs.Bits.{maxBits}
 
 -- a piece of a reference of n bits, at its start x
 abbrev pub Shape : Settings → ℕ → ℕ → Segment → Type 0
@@ -49,7 +51,7 @@ unfolding sizeOf
 size-bits l = bits-answer-size l
 
 -- the values of a proper answer to each kind of question that is looked into
-pub proper-size : (S : Settings) (h key : ℕ) (a : Answer) → Proper S (AskOpen h key) a → theSize a ≤ 65536
+pub proper-size : (S : Settings) (h key : ℕ) (a : Answer) → Proper S (AskOpen h key) a → theSize a ≤ maxBits
 proper-size S h key (sizeAnswer n) p = p .values
 proper-size S h key (hashAnswer v) p = omega arith
 proper-size S h key (syndromeAnswer s v) p = omega arith
@@ -75,7 +77,7 @@ inside-length n (AskSyndrome x p) i = let j = i .1 in omega arith
 inside-length n (AskBits x p) i = let j = i .1 in omega arith
 
 -- a proper answer's bytes
-pub sizes : (S : Settings) (n : ℕ) → n ≤ 65536 → (q : Question) (a : Answer) → Inside n q → Proper S q a → sizeOf a ≤ max 9 (full n)
+pub sizes : (S : Settings) (n : ℕ) → n ≤ maxBits → (q : Question) (a : Answer) → Inside n q → Proper S q a → sizeOf a ≤ max 9 (full n)
 unfolding sizeOf
 sizes S n h q a i p = let l = inside-length n q i in let e = answer-most (questionLength q) (S .h) a (omega arith) (p .values) in omega arith
 
@@ -100,11 +102,11 @@ module _ (S : Settings) (L : Limits S) (n : ℕ) where
   trialOf-shape x p v w ys none h o k = again x p ys h o
   trialOf-shape x p v w ys (some b) h o k = trial-shape x p v w ys b h o (k b refl)
 
-  placed-shape : (x p s : ℕ) (ys b : List Bool) (l : List ℕ) (o : Option ℕ) → x + p ≤ n → 0 < p → Fit S p s → Fits S p l → length b ≡ S .m → Fine x p ys (placed s b l o)
-  placed-shape x p s ys b l none h o f k e = ((h, k, o), refl)
-  placed-shape x p s ys b l (some r) h o f k e =
+  placed-shape : (x p s : ℕ) (ys b : List Bool) (u : Stage) (o : Option ℕ) → x + p ≤ n → 0 < p → Fit S p s → StageOk S p (length ys) u → length b ≡ S .m → Fine x p ys (placed s b u o)
+  placed-shape x p s ys b u none h o f k e = ((h, k, o), refl)
+  placed-shape x p s ys b u (some r) h o f k e =
       let q = f .room in
-      let u = begin-span S L s (take r ys) in
+      let c = begin-span S L s (take r ys) in
       let v = begin-span S L (p - (s + S .m)) (drop (r + S .m) ys) in (
         begin-shape x s (take r ys) (omega arith),
         (omega arith, (begin-shape (x + span (begin S s (take r ys)) + length b) (p - (s + S .m)) (drop (r + S .m) ys) (omega arith), omega arith)),
@@ -112,16 +114,17 @@ module _ (S : Settings) (L : Limits S) (n : ℕ) where
 
   pub work-shape : (x p : ℕ) (ys : List Bool) (t : Stage) (a : Answer) → Shape S n x (waiting p ys t) → Proper S (asks S x p t) a → Chain (Shape S n) x (work S a p ys t) (x + p)
   unfolding effect
-  work-shape x p ys hashing a h k = trial-shape x p (theHash a) ByHash ys ys (h .0) (h .2) (h .1)
-  work-shape x p ys puttingIn a h k = let d = h .1 in trialOf-shape x p (theHash a) ByPutIn ys (putIn (theSyndrome a) ys) (h .0) (h .2) (λ b e. let l = put-in-length (theSyndrome a) ys b e in omega arith)
-  work-shape x p ys takingOut a h k = let d = h .1 in trialOf-shape x p (theHash a) ByTakeOut ys (takeOut (theSyndrome a) ys) (h .0) (h .2) (λ b e. let l = take-out-length (theSyndrome a) ys b e in omega arith)
-  work-shape x p ys (anchors []) a h k = let e = proper-bits S x p a k in let d = h .0 in (omega arith, omega arith)
-  work-shape x p ys (anchors (s ∷ l)) a h k =
-      placed-shape x p s ys (theBits a) l (place (S .m) (S .k) p s ys (theBits a)) (h .0) (h .2) (h .1 .0) (h .1 .1) (proper-bits S (x + s) (S .m) a k)
+  work-shape x p ys Hashing a h k = trial-shape x p (theHash a) ByHash ys ys (h .0) (h .2) (h .1)
+  work-shape x p ys PuttingIn a h k = let d = h .1 in trialOf-shape x p (theHash a) ByPutIn ys (putIn (theSyndrome a) ys) (h .0) (h .2) (λ b e. let l = put-in-length (theSyndrome a) ys b e in omega arith)
+  work-shape x p ys TakingOut a h k = let d = h .1 in trialOf-shape x p (theHash a) ByTakeOut ys (takeOut (theSyndrome a) ys) (h .0) (h .2) (λ b e. let l = take-out-length (theSyndrome a) ys b e in omega arith)
+  work-shape x p ys AllBits a h k = let e = proper-bits S x p a k in let d = h .0 in (omega arith, omega arith)
+  work-shape x p ys (Anchor i) a h k =
+      let s = offset (S .m) p i in
+      placed-shape x p s ys (theBits a) (afterAnchor i) (place (S .m) (S .k) p s ys (theBits a)) (h .0) (h .2) (offset-fits S L p i (h .1)) (after-ok S L p (length ys) i (h .1)) (proper-bits S (x + s) (S .m) a k)
 
   pub asks-inside : (x p : ℕ) (ys : List Bool) (t : Stage) → Shape S n x (waiting p ys t) → Inside n (asks S x p t)
-  asks-inside x p ys hashing g = (g .2, g .0)
-  asks-inside x p ys puttingIn g = (g .2, g .0)
-  asks-inside x p ys takingOut g = (g .2, g .0)
-  asks-inside x p ys (anchors []) g = (g .2, g .0)
-  asks-inside x p ys (anchors (s ∷ l)) g = let r = g .1 .0 .room in let a = g .0 in let b = L .m-least in (omega arith, omega arith)
+  asks-inside x p ys Hashing g = (g .2, g .0)
+  asks-inside x p ys PuttingIn g = (g .2, g .0)
+  asks-inside x p ys TakingOut g = (g .2, g .0)
+  asks-inside x p ys AllBits g = (g .2, g .0)
+  asks-inside x p ys (Anchor i) g = let r = offset-fits S L p i (g .1) .room in let a = g .0 in let b = L .m-least in (omega arith, omega arith)

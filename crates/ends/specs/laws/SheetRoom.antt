@@ -6,12 +6,11 @@ use Prim.Native.Nat.{ℕ, zero, suc, _+_, _-_, _*_, _/_, _≤_, _<_}
 use native.Mathlib.Omega.{arith}
 use lib.ListN.{length}
 use lib.Dec.{leb}
-use borrow.Author.Tests.{leb-true, ne-eqb}
+use borrow.Author.Tests.{leb-true}
 use Rattle.strings.specs.Bits.{bytesFor, range}
 use Rattle.strings.specs.laws.Tests.{and-left, and-right}
-use Rattle.messages.specs.Answers.{Answer}
 use Rattle.ends.specs.laws.Asking.{TakenCall, taken-call}
-use Rattle.ends.specs.RebuilderCall.{Rooms, Step, bitsKnown, effectStep, numberedStage, openingStep, rebuilderCall, roomFor, rowsNeeded, stepOf, takes, wholeStep}
+use Rattle.ends.specs.RebuilderCall.{Rooms, Step, bitsKnown, effectStep, openingStep, rebuilderCall, roomFor, rowsNeeded, stepOf, takes, wholeStep}
 use Rattle.ends.specs.Segments.{Effect, effect, settles, splits, stays}
 use Rattle.ends.specs.laws.SoundParts.{PhaseOf, isOpening, isPieces, isWhole, phase-of, sound-is}
 use Rattle.ends.specs.Soundness.{rowsLeft}
@@ -32,9 +31,6 @@ effect-rows st size (settles w b) = omega arith
 effect-rows st size (stays t) = omega arith
 effect-rows st size (splits s r b) = omega arith
 
-known-later : (st : Rebuilder) (a : Answer) → 0 < st .phase → bitsKnown st a ≡ st .n
-known-later st a h = rw (ne-eqb (st .phase) 0 (λ z. omega arith)) refl
-
 module _ (st : Rebuilder) (y : List ℕ) (bits : ℕ) (msg : List ℕ) (rooms : Rooms) (step : Step) (next : List ℕ) (e : rebuilderCall st y bits msg rooms ≡ takes step next) where
   sheet-room : (n : ℕ) → roomFor st n rooms ≡ true → 2 * (n / st .settings .m) + 1 ≤ rooms .sheet
   sheet-room n r =
@@ -48,19 +44,19 @@ module _ (st : Rebuilder) (y : List ℕ) (bits : ℕ) (msg : List ℕ) (rooms : 
       k : TakenCall st y msg rooms step next
       k = taken-call st y bits msg rooms step next e
 
-      later : 0 < st .phase → 2 * (st .n / st .settings .m) + 1 ≤ rooms .sheet
-      later h = sheet-room (st .n) (rw (known-later st (k .a) h) at (k .room))
+      later : bitsKnown st (k .a) ≡ st .n → 2 * (st .n / st .settings .m) + 1 ≤ rooms .sheet
+      later h = sheet-room (st .n) (rw h at (k .room))
 
       go : PhaseOf st (k .q) → rowsNeeded (stepOf st y (length msg) (k .a) .sheet) ≤ rooms .sheet
       go (isOpening p i d) = rw (step-opening st y (length msg) (k .a) p) (unfold openingStep in omega arith)
       go (isPieces p i w d) =
-          let f : Effect = effect (st .settings) (k .a) (top st .p) (range y (top st .y) (top st .q)) (numberedStage (st .settings) (top st .p) (top st .q) (st .stage)) in
+          let f : Effect = effect (st .settings) (k .a) (top st .p) (range y (top st .y) (top st .q)) (st .stage) in
           let r = rows-some (st .settings .m) (st .waiting) (st .pieces) w in
           let t = i .stack .rows in
-          let l = later (omega arith) in
+          let l = later (rw p refl) in
           let g = effect-rows st (length msg) f in
           rw (step-pieces st y (length msg) (k .a) p) (omega arith)
       go (isWhole p i d) =
           let t = i .stack .rows in
-          let l = later (omega arith) in
-          rw (step-whole st y (length msg) (k .a) (omega arith)) (unfold wholeStep in omega arith)
+          let l = later (rw p refl) in
+          rw (step-whole st y (length msg) (k .a) p) (unfold wholeStep in omega arith)

@@ -1,24 +1,26 @@
 -- Laws of the soundness test: what each part of it says.
-use mathlib.Core.Path.{_≡_, refl, sym}
-use mathlib.Core.Bool.{Bool, true, false, cond, not, _&&_, _||_}
+use mathlib.Core.Path.{_≡_, refl}
+use mathlib.Core.Bool.{Bool, true, false, cond, _&&_, _||_}
 use mathlib.Core.List.{List, [], _∷_}
 use Prim.Native.Nat.{ℕ, zero, suc, _+_, _-_, _≤_, _<_}
-use native.Mathlib.Nat.{le-refl}
 use native.Mathlib.Omega.{arith}
 use native.Mathlib.Decide.{ℕ-discrete}
 use lib.ListN.{length, getD}
-use lib.Dec.{leb, ltb, eqb, lit≤}
-use borrow.Author.Tests.{eqb-true, ltb-true, leb-true, le-leb, lt-ltb, ne-eqb}
+use lib.Dec.{leb, ltb, eqb}
+use borrow.Author.Tests.{eqb-true, ltb-true, leb-true, le-leb, lt-ltb, not-true}
 use Rattle.ends.specs.Soundness.{bound, blankFrom, inOrder, isBlank, pieceFits, stageFits}
 use Rattle.strings.specs.SettingLimits.{Limits}
 use Rattle.ends.specs.laws.Moves.{Blank}
-use Rattle.ends.specs.RebuilderCall.{numberedStage}
-use Rattle.ends.specs.laws.Right.{Fits, StageOk, later-ok}
-use Rattle.ends.specs.Segments.{hashing, laterStage, middle, puttingIn, takingOut, tooSmall}
-use Rattle.ends.specs.States.{firstNumber, laterNumber, nextNumber, noPiece}
+use Rattle.ends.specs.laws.Right.{StageOk, long-is}
+use Rattle.ends.specs.Segments.{laterStage, tooSmall, afterAnchor, nextStage, firstStage}
+use Rattle.ends.specs.States.{noPiece}
 use Rattle.ends.specs.declared.Piece.{Piece}
 use Rattle.strings.specs.declared.settings.Settings.{Settings}
-use Rattle.strings.specs.laws.Tests.{and-left, and-right, both, and-true, by-test}
+use Rattle.strings.specs.laws.Tests.{and-left, and-right, both, and-true}
+use Rattle.ends.specs.declared.Stage.{Stage}
+use Rattle.ends.specs.declared.Stage.the-variants.{Hashing, PuttingIn, TakingOut, Anchor, AllBits}
+use Rattle.ends.specs.declared.Attempt.{Attempt}
+use Rattle.ends.specs.declared.Attempt.the-variants.{First, Second, Third}
 
 -- ---- entries behind the waiting pieces
 blank-piece : (pc : Piece) → isBlank pc ≡ true → pc ≡ noPiece
@@ -91,62 +93,42 @@ ordered-from n e x y x′ y′ [] h k o = tt
 ordered-from n e x y x′ y′ (pc ∷ l) h k o = ((let a = o .0 in omega arith), (let a = o .1 in omega arith), o .2, o .3, o .4, o .5, o .6)
 
 -- ---- stages
-pub later-fits : (S : Settings) (p q : ℕ) → stageFits S p q (laterNumber S p q) ≡ true
-unfolding stageFits laterNumber
+pub later-fits : (S : Settings) (p q : ℕ) → stageFits S p q (laterStage S p q) ≡ true
+unfolding stageFits laterStage
 later-fits S p q = go (tooSmall S p q) refl
   where
-    go : (t : Bool) → tooSmall S p q ≡ t → stageFits S p q (cond t 4 1) ≡ true
+    go : (t : Bool) → tooSmall S p q ≡ t → stageFits S p q (cond t AllBits (Anchor First)) ≡ true
     go true e = refl
     go false e = rw e refl
 
-pub first-fits : (S : Settings) (p q : ℕ) → stageFits S p q (firstNumber S p q) ≡ true
-unfolding stageFits firstNumber
+pub first-fits : (S : Settings) (p q : ℕ) → stageFits S p q (firstStage S p q) ≡ true
+unfolding stageFits firstStage
 first-fits S p q = go (eqb q p) refl (eqb (q + 1) p) refl (eqb q (p + 1)) refl
   where
-    go : (a : Bool) → eqb q p ≡ a → (b : Bool) → eqb (q + 1) p ≡ b → (c : Bool) → eqb q (p + 1) ≡ c → stageFits S p q (cond a 0 (cond b 0 (cond c 0 (laterNumber S p q)))) ≡ true
-    go true e b f c g = rw e refl
-    go false e true f c g = rw (e, f) refl
-    go false e false f true g = rw (e, f, g) refl
+    go : (a : Bool) → eqb q p ≡ a → (b : Bool) → eqb (q + 1) p ≡ b → (c : Bool) → eqb q (p + 1) ≡ c → stageFits S p q (cond a Hashing (cond b PuttingIn (cond c TakingOut (laterStage S p q)))) ≡ true
+    go true e b f c g = e
+    go false e true f c g = f
+    go false e false f true g = g
     go false e false f false g = later-fits S p q
 
-pub next-fits : (S : Settings) (p q j : ℕ) → j < 4 → stageFits S p q j ≡ true → stageFits S p q (nextNumber S p q j) ≡ true
-unfolding stageFits nextNumber
-next-fits S p q zero h e = later-fits S p q
-next-fits S p q (suc zero) h e = e
-next-fits S p q (suc (suc zero)) h e = e
-next-fits S p q (suc (suc (suc zero))) h e = refl
-next-fits S p q (suc (suc (suc (suc j)))) h e = absurd (omega arith)
-
-pub next-later : (S : Settings) (p q j : ℕ) → j + 1 ≤ nextNumber S p q j
-unfolding nextNumber laterNumber
-next-later S p q zero = by-test (λ (n : ℕ). 1 ≤ n) (tooSmall S p q) (λ e. lit≤ tt) (λ e. lit≤ tt)
-next-later S p q (suc j) = rw (ne-eqb (suc j) 0 (λ z. omega arith)) (le-refl (suc j + 1))
-
-pub stage-most : (S : Settings) (p q j : ℕ) → stageFits S p q j ≡ true → j ≤ 4
+after-fits : (S : Settings) (p q : ℕ) (i : Attempt) → stageFits S p q (Anchor i) ≡ true → stageFits S p q (afterAnchor i) ≡ true
 unfolding stageFits
-stage-most S p q zero e = omega arith
-stage-most S p q (suc j) e =
-    let f : leb (suc j) 4 && (eqb (suc j) 4 || not (tooSmall S p q)) ≡ true = rw (ne-eqb (suc j) 0 (λ z. omega arith)) at e in
-    leb-true (suc j) 4 (and-left (leb (suc j) 4) (eqb (suc j) 4 || not (tooSmall S p q)) f)
+after-fits S p q First e = e
+after-fits S p q Second e = e
+after-fits S p q Third e = refl
 
-pub not-true : (t : Bool) → not t ≡ true → t ≡ false
-not-true true e = sym e
-not-true false e = refl
-
-three-fits : (S : Settings) → Limits S → (p q : ℕ) → tooSmall S p q ≡ false → Fits S p (middle (S .m) p ∷ (middle (S .m) p + S .m) ∷ (middle (S .m) p - S .m) ∷ [])
-unfolding laterStage
-three-fits S L p q e = rw e at (later-ok S L p q)
+pub next-fits : (S : Settings) (p q : ℕ) (t : Stage) → stageFits S p q t ≡ true → stageFits S p q (nextStage S p q t) ≡ true
+next-fits S p q Hashing e = later-fits S p q
+next-fits S p q PuttingIn e = later-fits S p q
+next-fits S p q TakingOut e = later-fits S p q
+next-fits S p q (Anchor i) e = after-fits S p q i e
+next-fits S p q AllBits e = e
 
 -- a stage that fits is one that the protocol can have
-pub fits-stage : (S : Settings) → Limits S → (p q j : ℕ) → stageFits S p q j ≡ true → StageOk S p q (numberedStage S p q j)
+pub fits-stage : (S : Settings) → Limits S → (p q : ℕ) (t : Stage) → stageFits S p q t ≡ true → StageOk S p q t
 unfolding stageFits
-fits-stage S L p q zero e = go (eqb q p) refl (eqb (q + 1) p) refl e
-  where
-    go : (a : Bool) → eqb q p ≡ a → (b : Bool) → eqb (q + 1) p ≡ b → (a || (b || eqb q (p + 1))) ≡ true → StageOk S p q (cond a hashing (cond b puttingIn takingOut))
-    go true f b g e = eqb-true q p f
-    go false f true g e = eqb-true (q + 1) p g
-    go false f false g e = eqb-true q (p + 1) e
-fits-stage S L p q (suc zero) e = three-fits S L p q (not-true (tooSmall S p q) e)
-fits-stage S L p q (suc (suc zero)) e = three-fits S L p q (not-true (tooSmall S p q) e) .1
-fits-stage S L p q (suc (suc (suc zero))) e = three-fits S L p q (not-true (tooSmall S p q) e) .1 .1
-fits-stage S L p q (suc (suc (suc (suc j)))) e = tt
+fits-stage S L p q Hashing e = eqb-true q p e
+fits-stage S L p q PuttingIn e = eqb-true (q + 1) p e
+fits-stage S L p q TakingOut e = eqb-true q (p + 1) e
+fits-stage S L p q (Anchor i) e = long-is S L p q (not-true (tooSmall S p q) e)
+fits-stage S L p q AllBits e = tt

@@ -1,6 +1,6 @@
 -- What a state that passes the soundness test has: the test, part by part, as statements.
 use mathlib.Core.Path.{_≡_, refl, ap, _∙_}
-use mathlib.Core.Bool.{Bool, true, false, cond, not, _&&_, _||_}
+use mathlib.Core.Bool.{Bool, true, false, cond, _&&_, _||_}
 use mathlib.Core.List.{_∷_}
 use mathlib.Core.Option.{none, some}
 use Prim.Native.Nat.{ℕ, zero, suc, _+_, _-_, _*_, _/_, max, _≤_, _<_}
@@ -8,24 +8,30 @@ use native.Mathlib.Omega.{arith}
 use native.Mathlib.Decide.{ℕ-discrete, decLe}
 use lib.ListN.{length, getD}
 use lib.Dec.{leb, ltb, eqb}
-use borrow.Author.Tests.{eqb-true, eqb-false, eq-eqb, ltb-true, ltb-false, leb-true, leb-false, le-leb, lt-ltb, ne-eqb}
+use borrow.Author.Tests.{eqb-true, eqb-false, ltb-true, leb-true, le-leb, lt-ltb, ne-eqb}
 use Rattle.messages.specs.declared.Question.{Question}
-use Rattle.messages.specs.declared.Question.the-variants.{AskBits, AskHash, AskOpen, AskSyndrome}
+use Rattle.messages.specs.declared.Question.the-variants.{AskBits, AskOpen}
 use Rattle.ends.specs.Anchors.{fits}
-use Rattle.ends.specs.Soundness.{bound, asksLeft, blankFrom, inOrder, mostCounted, openingSound, phaseSound, piecesSound, rowsFit, rowsLeft, sound, stackSound, stageFits, topFits, wholeSound}
+use Rattle.ends.specs.Soundness.{bound, asksLeft, blankFrom, inOrder, mostCounted, openingSound, phaseSound, piecesSound, rowsFit, rowsLeft, sound, stackSound, stageFits, topFits, wholeSound, asksBefore, isHashing, soundAt}
 use Rattle.strings.specs.SettingLimits.{Limits, withinLimits}
 use Rattle.ends.specs.laws.Moves.{Blank, held-top}
-use Rattle.ends.specs.laws.Right.{or-false}
+use Rattle.ends.specs.laws.Right.{Long, StageOk, offset-fits}
 use Rattle.ends.specs.Runs.{blank, full}
-use Rattle.ends.specs.Segments.{asks, tooSmall, waiting}
+use Rattle.ends.specs.Segments.{asks, waiting}
 use Rattle.ends.specs.laws.Shape.{Inside}
 use Rattle.strings.specs.laws.SettingLaws.{is-limits, limits-is}
-use Rattle.ends.specs.laws.SoundLaws.{Ordered, blank-is, is-blank, is-order, not-true, order-is, stage-most}
+use Rattle.ends.specs.laws.SoundLaws.{Ordered, blank-is, fits-stage, is-blank, is-order, order-is}
 use Rattle.ends.specs.laws.StackLaws.{held-length}
-use Rattle.ends.specs.States.{anchorOffset, askFor, held, noPiece, planned, top}
+use Rattle.ends.specs.States.{held, noPiece, planned, top, plannedAt}
 use Rattle.ends.specs.declared.Rebuilder.{Rebuilder}
 use Rattle.strings.specs.declared.settings.Settings.{Settings}
-use Rattle.strings.specs.laws.Tests.{and-left, and-right, both, and-true, by-test}
+use Rattle.strings.specs.laws.Tests.{both, and-true}
+use Rattle.ends.specs.declared.Stage.{Stage}
+use Rattle.ends.specs.declared.Stage.the-variants.{Hashing, PuttingIn, TakingOut, Anchor, AllBits}
+use Rattle.ends.specs.declared.Attempt.{Attempt}
+use Rattle.ends.specs.declared.Phase.{Phase}
+use Rattle.ends.specs.declared.Phase.the-variants.{AtOpening, AtPieces, AtWhole}
+use Rattle.strings.specs.Bits.{maxBits}
 
 -- ---- the parts of the test
 pub record StackIs (st : Rebuilder) : Type 0 where
@@ -49,8 +55,8 @@ is-stack st k =
 -- the fields that every phase has within their limits
 pub record Framed (st : Rebuilder) : Type 0 where
   pub limits : Limits (st .settings)
-  pub copy : st .ybits ≤ 65536
-  pub size : st .n ≤ 65536
+  pub copy : st .ybits ≤ maxBits
+  pub size : st .n ≤ maxBits
   pub few : st .waiting ≤ 32
   pub blank : Blank (st .pieces) (st .waiting)
 
@@ -58,16 +64,16 @@ pub sound-is : (st : Rebuilder) → sound st ≡ true → Framed st × (phaseSou
 unfolding sound
 sound-is st e =
     let z = blankFrom (st .pieces) (32 - st .waiting) (st .waiting) && phaseSound st in
-    let a = both (withinLimits (st .settings)) (leb (st .ybits) 65536 && (leb (st .n) 65536 && (leb (st .waiting) 32 && z))) e in
-    let b = both (leb (st .ybits) 65536) (leb (st .n) 65536 && (leb (st .waiting) 32 && z)) (a .1) in
-    let c = both (leb (st .n) 65536) (leb (st .waiting) 32 && z) (b .1) in
+    let a = both (withinLimits (st .settings)) (leb (st .ybits) maxBits && (leb (st .n) maxBits && (leb (st .waiting) 32 && z))) e in
+    let b = both (leb (st .ybits) maxBits) (leb (st .n) maxBits && (leb (st .waiting) 32 && z)) (a .1) in
+    let c = both (leb (st .n) maxBits) (leb (st .waiting) 32 && z) (b .1) in
     let d = both (leb (st .waiting) 32) z (c .1) in
     let f = both (blankFrom (st .pieces) (32 - st .waiting) (st .waiting)) (phaseSound st) (d .1) in
     let w = leb-true (st .waiting) 32 (d .0) in (
       record {
         limits = limits-is (st .settings) (a .0);
-        copy = leb-true (st .ybits) 65536 (b .0);
-        size = leb-true (st .n) 65536 (c .0);
+        copy = leb-true (st .ybits) maxBits (b .0);
+        size = leb-true (st .n) maxBits (c .0);
         few = w;
         blank = blank-is (st .pieces) (st .waiting) w (f .0);
       },
@@ -78,15 +84,15 @@ pub is-sound : (st : Rebuilder) → Framed st → phaseSound st ≡ true → sou
 unfolding sound
 is-sound st k e =
     and-true (withinLimits (st .settings)) _ (is-limits (st .settings) (k .limits))
-    (and-true (leb (st .ybits) 65536) _ (le-leb (st .ybits) 65536 (k .copy))
-    (and-true (leb (st .n) 65536) _ (le-leb (st .n) 65536 (k .size))
+    (and-true (leb (st .ybits) maxBits) _ (le-leb (st .ybits) maxBits (k .copy))
+    (and-true (leb (st .n) maxBits) _ (le-leb (st .n) maxBits (k .size))
     (and-true (leb (st .waiting) 32) _ (le-leb (st .waiting) 32 (k .few))
     (and-true (blankFrom (st .pieces) (32 - st .waiting) (st .waiting)) _ (is-blank (st .pieces) (st .waiting) (k .few) (k .blank)) e))))
 
 pub record PiecesIs (st : Rebuilder) : Type 0 where
   pub stack : StackIs st
   pub answered : 1 ≤ st .answered
-  pub asks : st .answered + asksLeft (st .settings .m) (held (st .waiting) (st .pieces)) ≤ 9 * (st .n / st .settings .m) + 6 + st .stage
+  pub asks : st .answered + asksLeft (st .settings .m) (held (st .waiting) (st .pieces)) ≤ 9 * (st .n / st .settings .m) + 6 + asksBefore (st .stage)
   pub counted : st .counted ≤ mostCounted st
 
 pub pieces-is : (st : Rebuilder) → piecesSound st ≡ true → PiecesIs st
@@ -94,7 +100,7 @@ unfolding piecesSound
 pieces-is st e =
     let a = both (stackSound st) _ e in
     let b = both (leb 1 (st .answered)) _ (a .1) in
-    let c = both (leb (st .answered + asksLeft (st .settings .m) (held (st .waiting) (st .pieces))) (9 * (st .n / st .settings .m) + 6 + st .stage)) _ (b .1) in
+    let c = both (leb (st .answered + asksLeft (st .settings .m) (held (st .waiting) (st .pieces))) (9 * (st .n / st .settings .m) + 6 + asksBefore (st .stage))) _ (b .1) in
     record { stack = stack-is st (a .0); answered = leb-true 1 (st .answered) (b .0); asks = leb-true _ _ (c .0); counted = leb-true _ _ (c .1) }
 
 pub is-pieces : (st : Rebuilder) → PiecesIs st → piecesSound st ≡ true
@@ -125,18 +131,18 @@ unfolding wholeSound
 is-whole st k =
     and-true (stackSound st) _ (is-stack st (k .stack)) (and-true _ _ (le-leb 1 (st .answered) (k .answered)) (and-true _ _ (le-leb _ _ (k .asks)) (and-true _ _ (lt-ltb 0 (st .waiting) (k .some)) (and-true _ _ (lt-ltb _ _ (k .past)) (le-leb _ _ (k .counted))))))
 
-pub phase-pieces : (st : Rebuilder) → st .phase ≡ 1 → phaseSound st ≡ piecesSound st
-phase-pieces st e = rw (ne-eqb (st .phase) 0 (λ z. omega arith), eq-eqb (st .phase) 1 e) refl
+pub phase-pieces : (st : Rebuilder) → st .phase ≡ AtPieces → phaseSound st ≡ piecesSound st
+phase-pieces st e = rw e refl
 
-pub phase-whole : (st : Rebuilder) → st .phase ≡ 2 → phaseSound st ≡ wholeSound st
-phase-whole st e = rw (ne-eqb (st .phase) 0 (λ z. omega arith), ne-eqb (st .phase) 1 (λ z. omega arith), eq-eqb (st .phase) 2 e) refl
+pub phase-whole : (st : Rebuilder) → st .phase ≡ AtWhole → phaseSound st ≡ wholeSound st
+phase-whole st e = rw e refl
 
 -- awaiting the opening's answer
 pub record OpeningIs (st : Rebuilder) : Type 0 where
   pub answered : st .answered ≡ 0
   pub counted : st .counted ≡ 0
   pub rows : st .rows ≡ 0
-  pub stage : st .stage ≡ 0
+  pub stage : isHashing (st .stage) ≡ true
   pub waiting : st .waiting ≡ 0
 
 pub opening-is : (st : Rebuilder) → openingSound st ≡ true → OpeningIs st
@@ -146,18 +152,10 @@ opening-is st e =
     let b = both (eqb (st .answered) 0) _ (a .1) in
     let c = both (eqb (st .counted) 0) _ (b .1) in
     let d = both (eqb (st .rows) 0) _ (c .1) in
-    let f = both (eqb (st .stage) 0) _ (d .1) in
-    record { answered = eqb-true (st .answered) 0 (b .0); counted = eqb-true (st .counted) 0 (c .0); rows = eqb-true (st .rows) 0 (d .0); stage = eqb-true (st .stage) 0 (f .0); waiting = eqb-true (st .waiting) 0 (f .1) }
+    let f = both (isHashing (st .stage)) _ (d .1) in
+    record { answered = eqb-true (st .answered) 0 (b .0); counted = eqb-true (st .counted) 0 (c .0); rows = eqb-true (st .rows) 0 (d .0); stage = f .0; waiting = eqb-true (st .waiting) 0 (f .1) }
 
 -- ---- the leftmost piece
-pub top-most : (st : Rebuilder) → topFits st ≡ true → st .stage ≤ 4
-unfolding topFits
-top-most st e = go (eqb (st .waiting) 0) e
-  where
-    go : (t : Bool) → cond t (eqb (st .stage) 0) (stageFits (st .settings) (top st .p) (top st .q) (st .stage)) ≡ true → st .stage ≤ 4
-    go true e = let z = eqb-true (st .stage) 0 e in omega arith
-    go false e = stage-most (st .settings) (top st .p) (top st .q) (st .stage) e
-
 bound-none : (i : ℕ) → bound (23 + i) ≡ 0
 bound-none zero = refl
 bound-none (suc i) = let e : 23 + suc i ≡ suc (23 + i) = omega arith in let h = bound-none i in rw e (omega arith)
@@ -171,11 +169,6 @@ few-pieces i p h k = go (decLe i 22)
         let e : i ≡ 23 + (i - 23) = omega arith in
         let q : bound i ≡ 0 = ap bound e ∙ bound-none (i - 23) in
         absurd (omega arith)
-
-pub offset-within : (m p j : ℕ) → 4 * m ≤ p → anchorOffset m p j + m ≤ p
-unfolding anchorOffset
-offset-within m p j h =
-    by-test (λ (s : ℕ). s + m ≤ p) (eqb j 1) (λ e. omega arith) (λ e. by-test (λ (s : ℕ). s + m ≤ p) (eqb j 2) (λ f. omega arith) (λ f. omega arith))
 
 -- what is known of the leftmost piece of a sound state
 pub record TopIs (st : Rebuilder) : Type 0 where
@@ -195,62 +188,41 @@ top-is st k pos =
     let fp = few-pieces (length (held (st .waiting - 1) (st .pieces))) (getD (st .pieces) (st .waiting - 1) noPiece .p) (o .2) (o .5) in
     record { some = o .2; inX = o .3; inY = o .4; stage = rw z at (k .fits); few = omega arith }
 
-pub stage-big : (S : Settings) (p q j : ℕ) → stageFits S p q j ≡ true → 0 < j → j < 4 → 4 * S .m ≤ p
-unfolding stageFits
-stage-big S p q j e a b =
-    let f : leb j 4 && (eqb j 4 || not (tooSmall S p q)) ≡ true = rw (ne-eqb j 0 (λ z. omega arith)) at e in
-    let g : (eqb j 4 || not (tooSmall S p q)) ≡ true = and-right (leb j 4) (eqb j 4 || not (tooSmall S p q)) f in
-    let h : not (tooSmall S p q) ≡ true = rw (ne-eqb j 4 (λ z. omega arith)) at g in
-    let k = ltb-false p (4 * (S .m + S .h)) (or-false (ltb p (4 * (S .m + S .h))) (ltb q (S .m)) (not-true (tooSmall S p q) h) .0) in
-    omega arith
+-- where anchors are tried the piece is long
+pub stage-long : (S : Settings) → Limits S → (p q : ℕ) (t : Stage) → stageFits S p q t ≡ true → (i : Attempt) → t ≡ Anchor i → Long S p
+stage-long S L p q t e i f = fits-stage S L p q (Anchor i) (rw f at e)
 
-pub ask-inside : (st : Rebuilder) → Limits (st .settings) → TopIs st → Inside (st .n) (askFor (st .settings .m) (st .stage) (top st))
-unfolding askFor
-ask-inside st L k =
-    let a = k .some in let b = k .inX in
-    let ml = L .m-least in
-    by-test (Inside (st .n)) (eqb (st .stage) 0)
-    (λ e. by-test (Inside (st .n)) (eqb (top st .q) (top st .p)) {a = AskHash (top st .x) (top st .p)} {b = AskSyndrome (top st .x) (top st .p)} (λ f. (a, b)) (λ f. (a, b)))
-    (λ e. by-test (Inside (st .n)) (leb 4 (st .stage)) {a = AskBits (top st .x) (top st .p)} {b = AskBits (top st .x + anchorOffset (st .settings .m) (top st .p) (st .stage)) (st .settings .m)} (λ f. (a, b))
-    (λ f.
-    let z : (st .stage ≡ 0) → ⊥ = eqb-false (st .stage) 0 e in
-    let lt = leb-false 4 (st .stage) f in
-    let g = stage-big (st .settings) (top st .p) (top st .q) (st .stage) (k .stage) (omega arith) (omega arith) in
-    let o = offset-within (st .settings .m) (top st .p) (st .stage) g in
-    (omega arith, omega arith)))
+pub ask-inside : (st : Rebuilder) → Limits (st .settings) → TopIs st → Inside (st .n) (asks (st .settings) (top st .x) (top st .p) (st .stage))
+ask-inside st L k = go (st .stage) (fits-stage (st .settings) L (top st .p) (top st .q) (st .stage) (k .stage))
+  where
+    go : (t : Stage) → StageOk (st .settings) (top st .p) (top st .q) t → Inside (st .n) (asks (st .settings) (top st .x) (top st .p) t)
+    go Hashing o = (k .some, k .inX)
+    go PuttingIn o = (k .some, k .inX)
+    go TakingOut o = (k .some, k .inX)
+    go (Anchor i) o = let r = offset-fits (st .settings) L (top st .p) i o .room in let a = k .inX in let b = L .m-least in (omega arith, omega arith)
+    go AllBits o = (k .some, k .inX)
 
 -- ---- a state's phase, and the question that it then asks
 pub data PhaseOf (st : Rebuilder) (q : Question) : Type 0 where
-  isOpening : st .phase ≡ 0 → OpeningIs st → AskOpen (st .settings .h) (st .settings .key) ≡ q → PhaseOf st q
-  isPieces : st .phase ≡ 1 → PiecesIs st → 0 < st .waiting → askFor (st .settings .m) (st .stage) (top st) ≡ q → PhaseOf st q
-  isWhole : st .phase ≡ 2 → WholeIs st → AskBits 0 (st .n) ≡ q → PhaseOf st q
+  isOpening : st .phase ≡ AtOpening → OpeningIs st → AskOpen (st .settings .h) (st .settings .key) ≡ q → PhaseOf st q
+  isPieces : st .phase ≡ AtPieces → PiecesIs st → 0 < st .waiting → asks (st .settings) (top st .x) (top st .p) (st .stage) ≡ q → PhaseOf st q
+  isWhole : st .phase ≡ AtWhole → WholeIs st → AskBits 0 (st .n) ≡ q → PhaseOf st q
 
 pub phase-of : (st : Rebuilder) (q : Question) → phaseSound st ≡ true → planned st ≡ some q → PhaseOf st q
 unfolding planned
-phase-of st q e k = go (ℕ-discrete (st .phase) 0) (ℕ-discrete (st .phase) 1) (ℕ-discrete (st .waiting) 0)
+phase-of st q e k = go (st .phase) refl e k
   where
-    asked : (w : Bool) → cond w none (some (askFor (st .settings .m) (st .stage) (top st))) ≡ some q → (w ≡ false) × (askFor (st .settings .m) (st .stage) (top st) ≡ q)
+    asked : (w : Bool) → cond w none (some (asks (st .settings) (top st .x) (top st .p) (st .stage))) ≡ some q → (w ≡ false) × (asks (st .settings) (top st .x) (top st .p) (st .stage) ≡ q)
     asked true f = let z : _≡_ {A = ℕ} 0 1 = cc in absurd (omega arith)
     asked false f = (refl, cc)
 
-    go : Dec (st .phase ≡ 0) → Dec (st .phase ≡ 1) → Dec (st .waiting ≡ 0) → PhaseOf st q
-    go (yes z) b w =
-        let t = eq-eqb (st .phase) 0 z in
-        let d : some (AskOpen (st .settings .h) (st .settings .key)) ≡ some q = rw t at k in
-        isOpening z (opening-is st (rw t at e)) (cc)
-    go (no z) (yes o) w =
-        let t = ne-eqb (st .phase) 0 z in
-        let u = eq-eqb (st .phase) 1 o in
-        let d = asked (eqb (st .waiting) 0) (rw (t, u) at k) in
-        let n = eqb-false (st .waiting) 0 (d .0) in
-        isPieces o (pieces-is st (rw (t, u) at e)) (positive w n) (d .1)
-      where
-        positive : Dec (st .waiting ≡ 0) → (st .waiting ≡ 0 → ⊥) → 0 < st .waiting
-        positive (yes a) n = absurd (n a)
-        positive (no a) n = omega arith
-    go (no z) (no o) w =
-        let t = ne-eqb (st .phase) 0 z in
-        let u = ne-eqb (st .phase) 1 o in
-        let d : some (AskBits 0 (st .n)) ≡ some q = rw (t, u) at k in
-        let f : eqb (st .phase) 2 && wholeSound st ≡ true = rw (t, u) at e in
-        isWhole (eqb-true (st .phase) 2 (and-left (eqb (st .phase) 2) (wholeSound st) f)) (whole-is st (and-right (eqb (st .phase) 2) (wholeSound st) f)) (cc)
+    positive : Dec (st .waiting ≡ 0) → (st .waiting ≡ 0 → ⊥) → 0 < st .waiting
+    positive (yes a) n = absurd (n a)
+    positive (no a) n = omega arith
+
+    go : (ph : Phase) → st .phase ≡ ph → soundAt ph st ≡ true → plannedAt ph st ≡ some q → PhaseOf st q
+    go AtOpening p e k = isOpening p (opening-is st e) (cc)
+    go AtPieces p e k =
+        let d = asked (eqb (st .waiting) 0) k in
+        isPieces p (pieces-is st e) (positive (ℕ-discrete (st .waiting) 0) (eqb-false (st .waiting) 0 (d .0))) (d .1)
+    go AtWhole p e k = isWhole p (whole-is st e) (cc)

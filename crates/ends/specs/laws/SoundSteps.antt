@@ -12,26 +12,30 @@ use borrow.Author.Tests.{eqb-false, eq-eqb, ltb-true, ltb-false, ne-eqb}
 use Rattle.messages.specs.Answers.{Answer}
 use Rattle.messages.specs.declared.Question.{Question}
 use Rattle.ends.specs.Anchors.{fits}
-use Rattle.ends.specs.laws.Counts.{Sane, cut, deep, deeper, sane}
-use Rattle.ends.specs.Soundness.{bound, asksLeft, openingSound, rowsLeft, sound, stageFits, topFits}
+use Rattle.ends.specs.laws.Counts.{Sane, before-most, cut, deep, deeper, sane}
+use Rattle.ends.specs.Soundness.{bound, asksLeft, openingSound, rowsLeft, sound, stageFits, topFits, asksBefore, isHashing}
 use Rattle.strings.specs.SettingLimits.{Limits}
 use Rattle.ends.specs.laws.Moves.{Blank, effectState, held-top, moved-effect, moved-opening}
-use Rattle.ends.specs.RebuilderCall.{counting, effectStep, freshRebuilder, numberedStage, openedState, openingStep, stepOf, tallied, wholeStep}
+use Rattle.ends.specs.RebuilderCall.{counting, effectStep, freshRebuilder, openedState, openingStep, stepOf, tallied, wholeStep}
 use Rattle.ends.specs.laws.Right.{StageOk}
 use Rattle.ends.specs.Runs.{blank, sizeOf, full}
-use Rattle.ends.specs.Segments.{Effect, Stage, asks, effect, settles, splits, stays, theBits, theSize, waiting}
+use Rattle.ends.specs.Segments.{Effect, Stage, asks, effect, settles, splits, stays, theBits, theSize, nextStage, firstStage, laterStage, tooSmall}
 use Rattle.ends.specs.laws.Shape.{Inside, Proper, proper-full, proper-size, sizes}
-use Rattle.ends.specs.laws.SoundLaws.{Ordered, first-fits, fits-stage, next-fits, next-later, ordered-from}
-use Rattle.ends.specs.States.{firstNumber, held, leftPiece, noPiece, planned, popped, pushed, restaged, retried, rightPiece, splitAt, top}
+use Rattle.ends.specs.laws.SoundLaws.{Ordered, first-fits, fits-stage, next-fits, ordered-from}
+use Rattle.ends.specs.States.{held, leftPiece, noPiece, planned, popped, pushed, restaged, retried, rightPiece, splitAt, top}
 use Rattle.ends.specs.laws.Steps.{step-opening, step-pieces, step-whole}
 use Rattle.ends.specs.laws.Store.{Landed, landed, push, rowsAfter, stackAfter}
 use Rattle.ends.specs.declared.Piece.{Piece}
 use Rattle.ends.specs.declared.Rebuilder.{Rebuilder}
 use Rattle.strings.specs.declared.settings.Settings.{Settings}
-use Rattle.strings.specs.Bits.{range}
+use Rattle.strings.specs.Bits.{range, maxBits}
 use Rattle.strings.specs.laws.RangeLaws.{range-length}
 use Rattle.strings.specs.laws.Tests.{by-test}
-use Rattle.ends.specs.laws.SoundParts.{StackIs, Framed, sound-is, is-sound, PiecesIs, is-pieces, WholeIs, is-whole, phase-pieces, phase-whole, OpeningIs, top-most, top-is, ask-inside, PhaseOf, phase-of, isOpening, isPieces, isWhole}
+use Rattle.ends.specs.laws.SoundParts.{StackIs, Framed, sound-is, is-sound, PiecesIs, is-pieces, WholeIs, is-whole, phase-pieces, phase-whole, OpeningIs, top-is, ask-inside, PhaseOf, phase-of, isOpening, isPieces, isWhole}
+use Rattle.ends.specs.declared.Stage.the-variants.{Hashing, PuttingIn, TakingOut, Anchor, AllBits}
+use Rattle.ends.specs.declared.Attempt.the-variants.{First, Second, Third}
+use Rattle.ends.specs.declared.Phase.{Phase}
+use Rattle.ends.specs.declared.Phase.the-variants.{AtPieces, AtWhole}
 
 -- ---- the lists of pieces that an effect leaves
 module _ (S : Settings) (L : Limits S) where
@@ -112,33 +116,33 @@ pub record Tally (s : Rebuilder) (size rows : ℕ) : Type 0 where
   pub fits : topFits s ≡ true
   pub order : Ordered (s .n) (s .ybits) 0 0 (held (s .waiting) (s .pieces))
   pub room : s .rows + rows + rowsLeft (s .settings .m) (held (s .waiting) (s .pieces)) ≤ 2 * (s .n / s .settings .m) + 1
-  pub asks : s .answered + 1 + asksLeft (s .settings .m) (held (s .waiting) (s .pieces)) ≤ 9 * (s .n / s .settings .m) + 6 + s .stage
+  pub asks : s .answered + 1 + asksLeft (s .settings .m) (held (s .waiting) (s .pieces)) ≤ 9 * (s .n / s .settings .m) + 6 + asksBefore (s .stage)
   pub counted : s .counted ≤ s .settings .ceiling
   pub short : size ≤ max 9 (full (s .n))
 
 module _ (s : Rebuilder) (size rows : ℕ) (k : Tally s size rows) where
-  abbrev over : ℕ → Rebuilder
+  abbrev over : Phase → Rebuilder
   over ph = counting s ph (s .answered + 1) (s .counted + size) (s .rows + rows)
 
-  over-framed : (ph : ℕ) → Framed (over ph)
+  over-framed : (ph : Phase) → Framed (over ph)
   over-framed ph = let f = k .framed in record { limits = f .limits; copy = f .copy; size = f .size; few = f .few; blank = f .blank }
 
-  over-stack : (ph : ℕ) → StackIs (over ph)
+  over-stack : (ph : Phase) → StackIs (over ph)
   unfolding topFits top
   over-stack ph = record { fits = k .fits; order = k .order; rows = k .room }
 
-  over-pieces : s .counted + size ≤ cond (eqb (s .waiting) 0) (s .settings .ceiling + full (s .n) + max 9 (full (s .n))) (s .settings .ceiling) → sound (over 1) ≡ true
+  over-pieces : s .counted + size ≤ cond (eqb (s .waiting) 0) (s .settings .ceiling + full (s .n) + max 9 (full (s .n))) (s .settings .ceiling) → sound (over AtPieces) ≡ true
   over-pieces h =
-      is-sound (over 1) (over-framed 1) (phase-pieces (over 1) refl ∙ is-pieces (over 1) record { stack = over-stack 1; answered = omega arith; asks = k .asks; counted = h })
+      is-sound (over AtPieces) (over-framed AtPieces) (phase-pieces (over AtPieces) refl ∙ is-pieces (over AtPieces) record { stack = over-stack AtPieces; answered = omega arith; asks = k .asks; counted = h })
 
-  over-whole : s .settings .ceiling < s .counted + size → 0 < s .waiting → sound (over 2) ≡ true
+  over-whole : s .settings .ceiling < s .counted + size → 0 < s .waiting → sound (over AtWhole) ≡ true
   over-whole h w =
       let a = k .asks in let c = k .counted in let z = k .short in
-      let m = top-most s (k .fits) in
+      let m = before-most (s .stage) in
       let five = some-asks (s .settings .m) (s .waiting) (s .pieces) w in
-      is-sound (over 2) (over-framed 2) (phase-whole (over 2) refl ∙ is-whole (over 2) record { stack = over-stack 2; answered = omega arith; asks = omega arith; some = w; past = h; counted = omega arith })
+      is-sound (over AtWhole) (over-framed AtWhole) (phase-whole (over AtWhole) refl ∙ is-whole (over AtWhole) record { stack = over-stack AtWhole; answered = omega arith; asks = omega arith; some = w; past = h; counted = omega arith })
 
-  over-judged : (t : Bool) → ltb (s .settings .ceiling) (s .counted + size) ≡ t → (u : Bool) → ltb 0 (s .waiting) ≡ u → sound (over (cond (t && u) 2 1)) ≡ true
+  over-judged : (t : Bool) → ltb (s .settings .ceiling) (s .counted + size) ≡ t → (u : Bool) → ltb 0 (s .waiting) ≡ u → sound (over (cond (t && u) AtWhole AtPieces)) ≡ true
   over-judged true e true f = over-whole (ltb-true (s .settings .ceiling) (s .counted + size) e) (ltb-true 0 (s .waiting) f)
   over-judged true e false f =
       let w = ltb-false 0 (s .waiting) f in
@@ -155,38 +159,51 @@ module _ (s : Rebuilder) (size rows : ℕ) (k : Tally s size rows) where
 -- ---- stages after an effect
 restaged-fits : (s : Rebuilder) → topFits (restaged s) ≡ true
 unfolding topFits restaged top
-restaged-fits s = go (eqb (s .waiting) 0) refl
+restaged-fits s = go (eqb (s .waiting) 0)
   where
-    go : (t : Bool) → eqb (s .waiting) 0 ≡ t
+    go : (t : Bool)
         → let p = getD (s .pieces) (s .waiting - 1) noPiece in
-        cond t (eqb (cond t 0 (firstNumber (s .settings) (p .p) (p .q))) 0) (stageFits (s .settings) (p .p) (p .q) (cond t 0 (firstNumber (s .settings) (p .p) (p .q)))) ≡ true
-    go true e = refl
-    go false e = first-fits (s .settings) _ _
+        cond t (isHashing (cond t Hashing (firstStage (s .settings) (p .p) (p .q)))) (stageFits (s .settings) (p .p) (p .q) (cond t Hashing (firstStage (s .settings) (p .p) (p .q)))) ≡ true
+    go true = refl
+    go false = first-fits (s .settings) _ _
 
-retried-fits : (st : Rebuilder) → 0 < st .waiting → st .stage < 4 → topFits st ≡ true → topFits (retried st) ≡ true
+retried-fits : (st : Rebuilder) → 0 < st .waiting → topFits st ≡ true → topFits (retried st) ≡ true
 unfolding topFits retried top
-retried-fits st pos low e =
+retried-fits st pos e =
     let z : eqb (st .waiting) 0 ≡ false = ne-eqb (st .waiting) 0 (λ w. omega arith) in
-    rw z (next-fits (st .settings) _ _ (st .stage) low (rw z at e))
+    rw z (next-fits (st .settings) _ _ (st .stage) (rw z at e))
 
--- only a stage below 4 leaves a piece waiting
-abbrev Low : ℕ → Effect → Type 0
-Low j (settles w b) = Unit {0}
-Low j (stays t) = j < 4
-Low j (splits s r b) = j < 4
+-- the next stage is a later one, unless all bits were asked for
+next-later : (S : Settings) (p q : ℕ) (t : Stage) → asksBefore t < 4 → asksBefore t + 1 ≤ asksBefore (nextStage S p q t)
+unfolding laterStage
+next-later S p q Hashing h = by-test (λ (t : Stage). 1 ≤ asksBefore t) (tooSmall S p q) {a = AllBits} {b = Anchor First} (λ e. lit≤ tt) (λ e. lit≤ tt)
+next-later S p q PuttingIn h = by-test (λ (t : Stage). 1 ≤ asksBefore t) (tooSmall S p q) {a = AllBits} {b = Anchor First} (λ e. lit≤ tt) (λ e. lit≤ tt)
+next-later S p q TakingOut h = by-test (λ (t : Stage). 1 ≤ asksBefore t) (tooSmall S p q) {a = AllBits} {b = Anchor First} (λ e. lit≤ tt) (λ e. lit≤ tt)
+next-later S p q (Anchor First) h = lit≤ tt
+next-later S p q (Anchor Second) h = lit≤ tt
+next-later S p q (Anchor Third) h = lit≤ tt
+next-later S p q AllBits h = absurd (omega arith)
 
-any-low : (j : ℕ) → j < 4 → (e : Effect) → Low j e
-any-low j h (settles w b) = tt
-any-low j h (stays t) = h
-any-low j h (splits s r b) = h
+-- only a stage before that of all bits leaves a piece waiting
+abbrev pub Low : Stage → Effect → Type 0
+Low t (settles w b) = Unit {0}
+Low t (stays u) = asksBefore t < 4
+Low t (splits s r b) = asksBefore t < 4
 
-low-stage : (S : Settings) (a : Answer) (p q : ℕ) (ys : List Bool) (j : ℕ) → Low j (effect S a p ys (numberedStage S p q j))
+any-low : (t : Stage) → asksBefore t < 4 → (e : Effect) → Low t e
+any-low t h (settles w b) = tt
+any-low t h (stays u) = h
+any-low t h (splits s r b) = h
+
+low-stage : (S : Settings) (a : Answer) (p : ℕ) (ys : List Bool) (t : Stage) → Low t (effect S a p ys t)
 unfolding effect
-low-stage S a p q ys zero = any-low 0 (lit≤ tt) (effect S a p ys (numberedStage S p q 0))
-low-stage S a p q ys (suc zero) = any-low 1 (lit≤ tt) (effect S a p ys (numberedStage S p q 1))
-low-stage S a p q ys (suc (suc zero)) = any-low 2 (lit≤ tt) (effect S a p ys (numberedStage S p q 2))
-low-stage S a p q ys (suc (suc (suc zero))) = any-low 3 (lit≤ tt) (effect S a p ys (numberedStage S p q 3))
-low-stage S a p q ys (suc (suc (suc (suc j)))) = tt
+low-stage S a p ys Hashing = any-low Hashing (lit≤ tt) (effect S a p ys Hashing)
+low-stage S a p ys PuttingIn = any-low PuttingIn (lit≤ tt) (effect S a p ys PuttingIn)
+low-stage S a p ys TakingOut = any-low TakingOut (lit≤ tt) (effect S a p ys TakingOut)
+low-stage S a p ys (Anchor First) = any-low (Anchor First) (lit≤ tt) (effect S a p ys (Anchor First))
+low-stage S a p ys (Anchor Second) = any-low (Anchor Second) (lit≤ tt) (effect S a p ys (Anchor Second))
+low-stage S a p ys (Anchor Third) = any-low (Anchor Third) (lit≤ tt) (effect S a p ys (Anchor Third))
+low-stage S a p ys AllBits = tt
 
 -- ---- one answer for the leftmost piece
 module _ (st : Rebuilder) (arr : length (st .pieces) ≡ 32) (f : Framed st) (k : PiecesIs st) (pos : 0 < st .waiting) (few : st .waiting < 32) (size : ℕ) (short : size ≤ max 9 (full (st .n))) where
@@ -199,16 +216,16 @@ module _ (st : Rebuilder) (arr : length (st .pieces) ≡ 32) (f : Framed st) (k 
       let fc = f .copy in let fs = f .size in let mc = m .ybits in let mn = m .n in
       record { limits = rw (m .settings) (f .limits); copy = omega arith; size = omega arith; few = m .few; blank = m .blank (f .blank) }
 
-  after-fits : (e : Effect) → Low (st .stage) e → topFits (effectState st e) ≡ true
+  after-fits : (e : Effect) → topFits (effectState st e) ≡ true
   unfolding splitAt
-  after-fits (settles w b) l = restaged-fits (popped st)
-  after-fits (stays t) l = retried-fits st pos l (k .stack .fits)
-  after-fits (splits s r b) l = restaged-fits _
+  after-fits (settles w b) = restaged-fits (popped st)
+  after-fits (stays t) = retried-fits st pos (k .stack .fits)
+  after-fits (splits s r b) = restaged-fits _
 
-  after-stage : (e : Effect) → Low (st .stage) e → st .stage + 1 ≤ spare (st .settings) (f .limits) e + effectState st e .stage
+  after-stage : (e : Effect) → Low (st .stage) e → asksBefore (st .stage) + 1 ≤ spare (st .settings) (f .limits) e + asksBefore (effectState st e .stage)
   unfolding retried
-  after-stage (settles w b) l = let z = top-most st (k .stack .fits) in omega arith
-  after-stage (stays t) l = let z = next-later (st .settings) (top st .p) (top st .q) (st .stage) in omega arith
+  after-stage (settles w b) l = let z = before-most (st .stage) in omega arith
+  after-stage (stays t) l = let z = next-later (st .settings) (top st .p) (top st .q) (st .stage) l in omega arith
   after-stage (splits s r b) l = omega arith
 
   pub effect-tally : (ys : List Bool) (t : Stage) (e : Effect) → length ys ≡ top st .q → Sane (st .settings) (top st .p) t e → Landed (st .settings) ys e → Low (st .stage) e
@@ -220,13 +237,13 @@ module _ (st : Rebuilder) (arr : length (st .pieces) ≡ 32) (f : Framed st) (k 
       let ht : held (st .waiting) (st .pieces) ≡ pc ∷ below = unfold top in held-top (st .waiting) (st .pieces) pos in
       let lf = effect-leaves (st .settings) (f .limits) (st .n) (st .ybits) pc below ys t e q (rw ht at (k .stack .order)) sn ld in
       let kr : st .rows + rowsLeft (st .settings .m) (pc ∷ below) ≤ 2 * (st .n / st .settings .m) + 1 = rw ht at (k .stack .rows) in
-      let ka : st .answered + asksLeft (st .settings .m) (pc ∷ below) ≤ 9 * (st .n / st .settings .m) + 6 + st .stage = rw ht at (k .asks) in
+      let ka : st .answered + asksLeft (st .settings .m) (pc ∷ below) ≤ 9 * (st .n / st .settings .m) + 6 + asksBefore (st .stage) = rw ht at (k .asks) in
       let lr = lf .rows in let la = lf .asks in
       let up = after-stage e l in
       let kc : st .counted ≤ st .settings .ceiling = rw (ne-eqb (st .waiting) 0 (λ w. omega arith)) at (k .counted) in
       record {
         framed = after-framed e;
-        fits = after-fits e l;
+        fits = after-fits e;
         order = rw (m .n, m .ybits, m .stack) (lf .order);
         room = rw (m .rows, m .settings, m .n, m .stack) (omega arith);
         asks = rw (m .answered, m .settings, m .n, m .stack) (omega arith);
@@ -242,7 +259,7 @@ zero-blank : (w : ℕ) → Blank (replicate 32 noPiece) w
 zero-blank w i a b = lib.ListN.getD-replicate 32 i noPiece noPiece b
 
 -- a fresh state
-pub fresh-sound : (S : Settings) (bits : ℕ) → Limits S → bits ≤ 65536 → Sound′ (freshRebuilder S bits)
+pub fresh-sound : (S : Settings) (bits : ℕ) → Limits S → bits ≤ maxBits → Sound′ (freshRebuilder S bits)
 unfolding openingSound
 fresh-sound S bits L h = (
   is-sound (freshRebuilder S bits) record { limits = L; copy = h; size = omega arith; few = omega arith; blank = zero-blank 0 } refl,
@@ -250,7 +267,7 @@ fresh-sound S bits L h = (
 )
 
 -- the opening's answer
-pub opening-sound : (st : Rebuilder) (n : ℕ) → length (st .pieces) ≡ 32 → Framed st → OpeningIs st → n ≤ 65536 → Sound′ (openingStep st n .state)
+pub opening-sound : (st : Rebuilder) (n : ℕ) → length (st .pieces) ≡ 32 → Framed st → OpeningIs st → n ≤ maxBits → Sound′ (openingStep st n .state)
 unfolding openingStep
 opening-sound st n arr f k h =
     let s = openingStep st n .state in
@@ -300,18 +317,18 @@ tallied-effect st size (splits x r b) s m = (s, m)
 
 -- an answer for the leftmost piece
 piece-sound : (st : Rebuilder) (y : List ℕ) (a : Answer) (size : ℕ) → length (st .pieces) ≡ 32 → Framed st → PiecesIs st → 0 < st .waiting → size ≤ max 9 (full (st .n))
-    → Sound′ (effectStep st size (effect (st .settings) a (top st .p) (range y (top st .y) (top st .q)) (numberedStage (st .settings) (top st .p) (top st .q) (st .stage))) .state)
+    → Sound′ (effectStep st size (effect (st .settings) a (top st .p) (range y (top st .y) (top st .q)) (st .stage)) .state)
 piece-sound st y a size arr f k pos short =
     let S = st .settings in
     let ti = top-is st (k .stack) pos in
     let ys = range y (top st .y) (top st .q) in
-    let t = numberedStage (st .settings) (top st .p) (top st .q) (st .stage) in
+    let t = st .stage in
     let e = effect S a (top st .p) ys t in
     let q = range-length y (top st .y) (top st .q) in
     let ok : StageOk S (top st .p) (length ys) t = rw q (fits-stage (st .settings) (f .limits) (top st .p) (top st .q) (st .stage) (ti .stage)) in
-    let sn = sane (st .settings) a (top st .p) (range y (top st .y) (top st .q)) (numberedStage (st .settings) (top st .p) (top st .q) (st .stage)) ok in
-    let ld = landed (st .settings) a (top st .p) (range y (top st .y) (top st .q)) (numberedStage (st .settings) (top st .p) (top st .q) (st .stage)) in
-    let lo = low-stage (st .settings) a (top st .p) (top st .q) (range y (top st .y) (top st .q)) (st .stage) in
+    let sn = sane (st .settings) (f .limits) a (top st .p) (range y (top st .y) (top st .q)) (st .stage) ok in
+    let ld = landed (st .settings) a (top st .p) (range y (top st .y) (top st .q)) (st .stage) in
+    let lo = low-stage (st .settings) a (top st .p) (range y (top st .y) (top st .q)) (st .stage) in
     let ta = effect-tally st arr f k pos (ti .few) size short ys t e q sn ld lo in
     let m = moved-effect (st .settings) st refl arr pos (ti .few) e in
     tallied-effect st size e (tallied-sound (effectState st e) size (length (rowsAfter S (top st) e)) ta) (m .array)
@@ -331,4 +348,4 @@ step-sound st y q a size arr s k o sz =
         rw (step-pieces st y size a p) (piece-sound st y a size arr f i w (omega arith))
     go f (isWhole p i e) =
         let z = proper-full (st .settings) 0 (st .n) a (rw (← e) at o) in
-        rw (step-whole st y size a (omega arith)) (whole-sound st size (theBits a) f i (omega arith))
+        rw (step-whole st y size a p) (whole-sound st size (theBits a) f i (omega arith))

@@ -1,6 +1,6 @@
 -- A state, a string buffer and a sheet stand for a store: what a step of the state makes of them is what a step of the store makes of it.
 use mathlib.Core.Path.{_≡_, refl, sym, ap, ap₂, _∙_}
-use mathlib.Core.Bool.{Bool, true, false, cond, _&&_}
+use mathlib.Core.Bool.{Bool, false, cond, _&&_}
 use mathlib.Core.List.{List, [], _∷_, _++_, append-nil}
 use Prim.Native.Nat.{ℕ, zero, suc, _+_, _-_, _≤_, _<_}
 use native.Mathlib.Nat.{add-zero}
@@ -10,13 +10,13 @@ use lib.Seq.{drop-drop, drop-append-add, sets, sets-eq, take-append-seam}
 use lib.Dec.{ltb, eqb}
 use Rattle.ends.specs.Claims.{rowsAtFront}
 use Rattle.ends.specs.laws.Kept.{blank-length}
-use Rattle.ends.specs.laws.Moves.{Moved, effectState, held-top, moved-effect, moved-push}
-use Rattle.ends.specs.RebuilderCall.{effectStep, noRow, numberedStage, openedState, openingStep, sheetAfter, stringAfter, tallied, wholeStep}
+use Rattle.ends.specs.laws.Moves.{Moved, effectState, moved-effect, moved-push}
+use Rattle.ends.specs.RebuilderCall.{effectStep, noRow, openedState, openingStep, sheetAfter, stringAfter, tallied, wholeStep}
 use Rattle.ends.specs.Runs.{blank, string}
-use Rattle.ends.specs.Segments.{Effect, Stage, hashing, row, settles, splits, stays, waiting}
-use Rattle.ends.specs.laws.StackLaws.{IsNext, held-any, numberedPhase, restage-held, stageHeld}
-use Rattle.ends.specs.States.{firstNumber, held, leftPiece, nextNumber, noPiece, popped, pushed, restaged, retried, rightPiece, splitAt, top}
-use Rattle.ends.specs.laws.Store.{Store, anyPiece, applied, atPieces, atWhole, phaseOf, push, rowsAfter, stackAfter, stageAfter, store, topStage}
+use Rattle.ends.specs.Segments.{Effect, Stage, Hashing, row, settles, splits, stays, nextStage, firstStage}
+use Rattle.ends.specs.laws.StackLaws.{IsNext, held-any, restage-held}
+use Rattle.ends.specs.States.{held, leftPiece, noPiece, popped, pushed, restaged, retried, rightPiece, splitAt, top}
+use Rattle.ends.specs.laws.Store.{Store, applied, AtPieces, phaseOf, push, rowsAfter, stackAfter, stageAfter, store, topStage}
 use Rattle.ends.specs.declared.How.the-variants.{ByAnchor, ByBits}
 use Rattle.ends.specs.declared.Piece.{Piece}
 use Rattle.ends.specs.declared.Rebuilder.{Rebuilder}
@@ -26,13 +26,14 @@ use Rattle.strings.specs.Bits.{atFront, bytesFor, cleared, pack, writeBits}
 use Rattle.strings.specs.laws.PackLaws.{front-cleared, front-write, length-over}
 use Rattle.strings.specs.laws.StoreLaws.{sets-front}
 use Rattle.strings.specs.laws.WriteLaws.{over}
+use Rattle.ends.specs.declared.Phase.the-variants.{AtWhole}
 
 -- the string buffer, lent at first with the bytes bs₀, has the store's bits packed at its front; the sheet, lent at first with the rows sh₀,
 -- has the store's rows at its front, and behind them z rows of zeros
 pub record Stands (S : Settings) (yb : ℕ) (bs₀ : List ℕ) (sh₀ : List Row) (z : ℕ) (st : Rebuilder) (bs : List ℕ) (sh : List Row) (s : Store) : Type 0 where
   pub str : List Bool
   pub rows : List Row
-  pub is : s ≡ store (numberedPhase (st .phase)) (st .n) (st .counted) (stageHeld S (st .stage) (held (st .waiting) (st .pieces))) (held (st .waiting) (st .pieces)) str rows
+  pub is : s ≡ store (st .phase) (st .n) (st .counted) (st .stage) (held (st .waiting) (st .pieces)) str rows
   pub size : length str ≡ st .n
   pub string : bs ≡ atFront (pack str) bs₀
   pub used : st .rows ≡ length rows
@@ -80,12 +81,8 @@ one-row l sh₀ r h k =
     (behind-front l sh₀ (suc (length (replicate (length l - 1) noRow))) (omega arith) ∙ ap (λ (j : ℕ). drop j sh₀) (let e : suc (length (replicate (length l - 1) noRow)) ≡ 1 + (length l - 1) = omega arith in e))
 
 -- the phase after an answer
-phase-is : (S : Settings) (c w : ℕ) (arr : List Piece) → numberedPhase (cond (ltb (S .ceiling) c && ltb 0 w) 2 1) ≡ phaseOf S c (held w arr)
-phase-is S c w arr = ap (λ (t : Bool). numberedPhase (cond (ltb (S .ceiling) c && t) 2 1)) (held-any w arr) ∙ go (ltb (S .ceiling) c && anyPiece (held w arr))
-  where
-    go : (t : Bool) → numberedPhase (cond t 2 1) ≡ cond t atWhole atPieces
-    go true = refl
-    go false = refl
+phase-is : (S : Settings) (c w : ℕ) (arr : List Piece) → cond (ltb (S .ceiling) c && ltb 0 w) AtWhole AtPieces ≡ phaseOf S c (held w arr)
+phase-is S c w arr = ap (λ (t : Bool). cond (ltb (S .ceiling) c && t) AtWhole AtPieces) (held-any w arr)
 
 blank-at : (n i : ℕ) → getD (blank n) i false ≡ false
 blank-at zero i = refl
@@ -108,7 +105,7 @@ module _ (S : Settings) (yb : ℕ) (bs₀ : List ℕ) (sh₀ : List Row) (st s :
     pub answered : s .rows ≡ st .rows
     pub array : length (s .pieces) ≡ 32
     pub stack : held (s .waiting) (s .pieces) ≡ l
-    pub stage : stageHeld S (s .stage) (held (s .waiting) (s .pieces)) ≡ t
+    pub stage : s .stage ≡ t
     pub size : length str ≡ st .n
     pub string : bs ≡ atFront (pack str) bs₀
     pub sheet : sh ≡ rowsAtFront (rows ++ new) 0 sh₀
@@ -118,8 +115,8 @@ module _ (S : Settings) (yb : ℕ) (bs₀ : List ℕ) (sh₀ : List Row) (st s :
   unfolding tallied
   stands-tallied size k =
       let kn = k .n in let ka = k .answered in let ku = k .used in
-      let ph : numberedPhase (cond (ltb (s .settings .ceiling) (s .counted + size) && ltb 0 (s .waiting)) 2 1) ≡ phaseOf S (st .counted + size) l =
-      ap (λ (z : Settings). numberedPhase (cond (ltb (z .ceiling) (s .counted + size) && ltb 0 (s .waiting)) 2 1)) (k .settings)
+      let ph : cond (ltb (s .settings .ceiling) (s .counted + size) && ltb 0 (s .waiting)) AtWhole AtPieces ≡ phaseOf S (st .counted + size) l =
+      ap (λ (z : Settings). cond (ltb (z .ceiling) (s .counted + size) && ltb 0 (s .waiting)) AtWhole AtPieces) (k .settings)
       ∙ phase-is S (s .counted + size) (s .waiting) (s .pieces)
       ∙ ap₂ (λ (c : ℕ) (k : List Piece). phaseOf S (c + size) k) (k .counted) (k .stack) in
       record {
@@ -136,18 +133,15 @@ module _ (S : Settings) (yb : ℕ) (bs₀ : List ℕ) (sh₀ : List Row) (st s :
       }
 
 -- ---- the stage
-pub restage-is : (S : Settings) (s : Rebuilder) → s .settings ≡ S → stageHeld S (restaged s .stage) (held (s .waiting) (s .pieces)) ≡ topStage S (held (s .waiting) (s .pieces))
+pub restage-is : (S : Settings) (s : Rebuilder) → s .settings ≡ S → restaged s .stage ≡ topStage S (held (s .waiting) (s .pieces))
 unfolding restaged top
 restage-is S s e =
-    ap (λ (z : Settings). stageHeld S (cond (eqb (s .waiting) 0) 0 (firstNumber z (getD (s .pieces) (s .waiting - 1) noPiece .p) (getD (s .pieces) (s .waiting - 1) noPiece .q))) (held (s .waiting) (s .pieces))) e
+    ap (λ (z : Settings). cond (eqb (s .waiting) 0) Hashing (firstStage z (getD (s .pieces) (s .waiting - 1) noPiece .p) (getD (s .pieces) (s .waiting - 1) noPiece .q))) e
     ∙ restage-held S (s .waiting) (s .pieces)
 
-retried-stage : (S : Settings) (st : Rebuilder) (t : Stage) → 0 < st .waiting → st .settings ≡ S → IsNext S (top st .p) (top st .q) (st .stage) (stays t)
-    → stageHeld S (retried st .stage) (held (retried st .waiting) (retried st .pieces)) ≡ t
-unfolding retried top
-retried-stage S st t pos e k =
-    ap (λ (z : List Piece). stageHeld S (nextNumber (st .settings) (top st .p) (top st .q) (st .stage)) z) (held-top (st .waiting) (st .pieces) pos)
-    ∙ ap (λ (z : Settings). numberedStage S (top st .p) (top st .q) (nextNumber z (top st .p) (top st .q) (st .stage))) e ∙ sym k
+retried-stage : (S : Settings) (st : Rebuilder) (t : Stage) → st .settings ≡ S → IsNext S (top st .p) (top st .q) (st .stage) (stays t) → retried st .stage ≡ t
+unfolding retried
+retried-stage S st t e k = ap (λ (z : Settings). nextStage z (top st .p) (top st .q) (st .stage)) e ∙ sym k
 
 -- ---- the effect of an answer
 module _ (S : Settings) (yb : ℕ) (bs₀ : List ℕ) (sh₀ : List Row) (st : Rebuilder) (bs : List ℕ) (sh : List Row) (s : Store) (h : Stands S yb bs₀ sh₀ 0 st bs sh s) (pos : 0 < st .waiting) (few : st .waiting < 32) where
@@ -157,10 +151,10 @@ module _ (S : Settings) (yb : ℕ) (bs₀ : List ℕ) (sh₀ : List Row) (st : R
   moved : (e : Effect) → Moved st (effectState st e) (stackAfter S (top st) below e)
   moved e = moved-effect S st (h .settings) (h .array) pos few e
 
-  stage-is : (e : Effect) → IsNext S (top st .p) (top st .q) (st .stage) e → stageHeld S (effectState st e .stage) (held (effectState st e .waiting) (effectState st e .pieces)) ≡ stageAfter S (stackAfter S (top st) below e) e
+  stage-is : (e : Effect) → IsNext S (top st .p) (top st .q) (st .stage) e → effectState st e .stage ≡ stageAfter S (stackAfter S (top st) below e) e
   unfolding splitAt restaged
   stage-is (settles w b) k = restage-is S (popped st) (moved (settles w b) .settings ∙ h .settings) ∙ ap (topStage S) (moved (settles w b) .stack)
-  stage-is (stays t) k = retried-stage S st t pos (h .settings) k
+  stage-is (stays t) k = retried-stage S st t (h .settings) k
   stage-is (splits x r b) k =
       restage-is S (pushed (pushed (popped st) (rightPiece (st .settings .m) (top st) x r)) (leftPiece (top st) x r)) (moved (splits x r b) .settings ∙ h .settings)
       ∙ ap (topStage S) (moved (splits x r b) .stack)
@@ -220,11 +214,11 @@ module _ (S : Settings) (yb : ℕ) (bs₀ : List ℕ) (sh₀ : List Row) (st : R
 -- a state that works on pieces, by its fields
 module _ (S : Settings) (yb : ℕ) (bs₀ : List ℕ) (sh₀ : List Row) (z : ℕ) (s : Rebuilder) (bs : List ℕ) (sh : List Row) (n c : ℕ) (t : Stage) (l : List Piece) (str : List Bool) (rows : List Row) where
   pub record Fields : Type 0 where
-    pub phase : s .phase ≡ 1
+    pub phase : s .phase ≡ AtPieces
     pub n-is : s .n ≡ n
     pub counted : s .counted ≡ c
     pub stack : held (s .waiting) (s .pieces) ≡ l
-    pub stage : stageHeld S (s .stage) (held (s .waiting) (s .pieces)) ≡ t
+    pub stage : s .stage ≡ t
     pub size : length str ≡ n
     pub string : bs ≡ atFront (pack str) bs₀
     pub used : s .rows ≡ length rows
@@ -233,12 +227,12 @@ module _ (S : Settings) (yb : ℕ) (bs₀ : List ℕ) (sh₀ : List Row) (z : �
     pub ybits : s .ybits ≡ yb
     pub array : length (s .pieces) ≡ 32
 
-  pub stands-fields : Fields → Stands S yb bs₀ sh₀ z s bs sh (store atPieces n c t l str rows)
+  pub stands-fields : Fields → Stands S yb bs₀ sh₀ z s bs sh (store AtPieces n c t l str rows)
   stands-fields k =
       record {
         str = str;
         rows = rows;
-        is = (λ i. store (numberedPhase (sym (k .phase) i)) (sym (k .n-is) i) (sym (k .counted) i) (sym (k .stage) i) (sym (k .stack) i) str rows);
+        is = (λ i. store (sym (k .phase) i) (sym (k .n-is) i) (sym (k .counted) i) (sym (k .stage) i) (sym (k .stack) i) str rows);
         size = k .size ∙ sym (k .n-is);
         string = k .string;
         used = k .used;
@@ -252,7 +246,7 @@ module _ (S : Settings) (yb : ℕ) (bs₀ : List ℕ) (sh₀ : List Row) (z : �
 pub stands-opening : (S : Settings) (yb : ℕ) (bs₀ : List ℕ) (sh₀ : List Row) (st : Rebuilder) (bs : List ℕ) (sh : List Row) (n : ℕ) → bs ≡ bs₀ → sh ≡ sh₀ → st .settings ≡ S → st .ybits ≡ yb → length (st .pieces) ≡ 32
     → bytesFor n ≤ length bs₀
     → let pc : Piece = record { x = 0; p = n; y = 0; q = yb } in
-    Stands S yb bs₀ sh₀ 0 (openingStep st n .state) (stringAfter bs (openingStep st n .string)) (sheetAfter sh (openingStep st n .sheet)) (store atPieces n 0 (topStage S (push pc [])) (push pc []) (blank n) [])
+    Stands S yb bs₀ sh₀ 0 (openingStep st n .state) (stringAfter bs (openingStep st n .string)) (sheetAfter sh (openingStep st n .sheet)) (store AtPieces n 0 (topStage S (push pc [])) (push pc []) (blank n) [])
 unfolding openingStep restaged
 stands-opening S yb bs₀ sh₀ st bs sh n eb es e f ar h =
     let st′ : Rebuilder = openedState st n in
@@ -279,12 +273,12 @@ stands-opening S yb bs₀ sh₀ st bs sh n eb es e f ar h =
 pub stands-whole : (S : Settings) (yb : ℕ) (bs₀ : List ℕ) (sh₀ : List Row) (st : Rebuilder) (bs : List ℕ) (sh : List Row) (s : Store) (h : Stands S yb bs₀ sh₀ 0 st bs sh s) (size : ℕ) (l : List Bool)
     → length l ≡ st .n → 0 < length sh₀ → st .rows ≤ length sh₀
     → Stands S yb bs₀ sh₀ (length (h .rows) - 1) (wholeStep st size l .state) (stringAfter bs (wholeStep st size l .string)) (sheetAfter sh (wholeStep st size l .sheet))
-    (store atPieces (st .n) (st .counted + size) hashing [] l (row 0 (st .n) ByBits ∷ []))
+    (store AtPieces (st .n) (st .counted + size) Hashing [] l (row 0 (st .n) ByBits ∷ []))
 unfolding wholeStep
 stands-whole S yb bs₀ sh₀ st bs sh s h size l e k r =
     let hu = h .used in let hn = h .size in
     let w : over (h .str) 0 l ≡ l = ap (λ (z : List Bool). l ++ z) (drop-of-length-le (h .str) {i = 0 + length l} (omega arith)) ∙ append-nil l in
-    stands-fields S yb bs₀ sh₀ (length (h .rows) - 1) (wholeStep st size l .state) (writeBits bs 0 l) (sets sh 0 (row 0 (st .n) ByBits ∷ replicate (st .rows - 1) noRow)) (st .n) (st .counted + size) hashing [] l (row 0 (st .n) ByBits ∷ []) record {
+    stands-fields S yb bs₀ sh₀ (length (h .rows) - 1) (wholeStep st size l .state) (writeBits bs 0 l) (sets sh 0 (row 0 (st .n) ByBits ∷ replicate (st .rows - 1) noRow)) (st .n) (st .counted + size) Hashing [] l (row 0 (st .n) ByBits ∷ []) record {
       phase = refl;
       n-is = refl;
       counted = refl;

@@ -9,7 +9,6 @@ use native.Mathlib.Omega.{arith}
 use lib.ListN.{length, take, getD, length-append}
 use lib.Seq.{take-at, drop-at}
 use lib.Dec.{lit≤}
-use borrow.Author.Tests.{eq-eqb, ne-eqb}
 use Rattle.messages.specs.Answers.{Answer}
 use Rattle.messages.specs.declared.Question.{Question}
 use Rattle.messages.specs.declared.Question.the-variants.{AskBits}
@@ -20,16 +19,16 @@ use Rattle.ends.specs.laws.Invariant.{Held, Inv, work-chain}
 use Rattle.ends.specs.laws.Kept.{rows-cost, rows-length}
 use Rattle.strings.specs.SettingLimits.{Limits}
 use Rattle.ends.specs.laws.Moves.{held-top}
-use Rattle.ends.specs.RebuilderCall.{effectStep, numberedStage, openingStep, sheetAfter, stepOf, stringAfter, wholeStep}
+use Rattle.ends.specs.RebuilderCall.{effectStep, openingStep, sheetAfter, stepOf, stringAfter, wholeStep}
 use Rattle.ends.specs.laws.Right.{begin-span, part-length}
-use Rattle.ends.specs.Runs.{Run, copies, opening, question, sizeOf, string, whole, working}
+use Rattle.ends.specs.Runs.{Run, copies, opening, question, sizeOf, whole, working}
 use Rattle.ends.specs.laws.SegmentLaws.{Chain, ask-waits, chain-end, copies-append}
-use Rattle.ends.specs.Segments.{Effect, Segment, Stage, ask, asks, dropped, effect, hashing, made, row, rowsOf, settled, settles, span, splits, stays, theBits, theSize, waiting, waits, work}
+use Rattle.ends.specs.Segments.{Effect, Segment, Stage, ask, asks, dropped, effect, Hashing, made, row, rowsOf, settled, settles, span, splits, stays, theBits, theSize, waiting, waits, work}
 use Rattle.ends.specs.laws.Shape.{Proper, Shape, proper-bits}
-use Rattle.ends.specs.laws.StackLaws.{IsNext, held-length, next-numbered, numberedPhase, stageHeld}
+use Rattle.ends.specs.laws.StackLaws.{IsNext, held-length, is-next}
 use Rattle.ends.specs.laws.Standing.{Stands, Within, stands-effect, stands-opening, stands-whole}
 use Rattle.ends.specs.States.{held, noPiece, top}
-use Rattle.ends.specs.laws.Store.{Store, anyPiece, applied, ask-front, atOpening, atPieces, atWhole, chain-front, firstWaiting, rowsAfter, stack-front, stack-waits, stackOf, stage-front, stageOf, stepStore, store, storeOf}
+use Rattle.ends.specs.laws.Store.{Store, anyPiece, applied, ask-front, chain-front, firstWaiting, rowsAfter, stack-front, stack-waits, stackOf, stage-front, stageOf, stepStore, store, storeOf}
 use Rattle.ends.specs.declared.How.the-variants.{ByBits}
 use Rattle.ends.specs.declared.Piece.{Piece}
 use Rattle.ends.specs.declared.Rebuilder.{Rebuilder}
@@ -39,6 +38,8 @@ use Rattle.strings.specs.Bits.{atFront, bytesFor, pack, range}
 use Rattle.strings.specs.laws.PackLaws.{pack-none}
 use Rattle.strings.specs.laws.RangeLaws.{range-part}
 use Rattle.strings.specs.laws.Tests.{true-false}
+use Rattle.ends.specs.declared.Phase.{Phase}
+use Rattle.ends.specs.declared.Phase.the-variants.{AtOpening, AtPieces, AtWhole}
 
 -- ---- what a step of a run has for the state
 stack-length : (x y : ℕ) (segs : List Segment) → length (stackOf x y segs) ≡ total isWait segs
@@ -118,35 +119,19 @@ module _ (S : Settings) (Y : List Bool) (L : Limits S) where
   some-held segs q (suc w) arr k e = omega arith
 
 -- ---- one answer
-pub phase-none : (k : ℕ) → atOpening ≡ numberedPhase k → k ≡ 0
-phase-none zero e = refl
-phase-none (suc zero) e = let z : _≡_ {A = ℕ} 0 1 = cc in absurd (omega arith)
-phase-none (suc (suc k)) e = let z : _≡_ {A = ℕ} 0 1 = cc in absurd (omega arith)
-
-pub phase-one : (k : ℕ) → atPieces ≡ numberedPhase k → k ≡ 1
-phase-one zero e = let z : _≡_ {A = ℕ} 0 1 = cc in absurd (omega arith)
-phase-one (suc zero) e = refl
-phase-one (suc (suc k)) e = let z : _≡_ {A = ℕ} 0 1 = cc in absurd (omega arith)
-
-pub phase-two : (k : ℕ) → atWhole ≡ numberedPhase k → 2 ≤ k
-phase-two zero e = let z : _≡_ {A = ℕ} 0 1 = cc in absurd (omega arith)
-phase-two (suc zero) e = let z : _≡_ {A = ℕ} 0 1 = cc in absurd (omega arith)
-phase-two (suc (suc k)) e = omega arith
-
 -- which step a state takes
 module _ (st : Rebuilder) (y : List ℕ) (size : ℕ) (a : Answer) where
-  pub step-opening : st .phase ≡ 0 → stepOf st y size a ≡ openingStep st (theSize a)
+  pub step-opening : st .phase ≡ AtOpening → stepOf st y size a ≡ openingStep st (theSize a)
   unfolding stepOf
-  step-opening e = rw (eq-eqb (st .phase) 0 e) refl
+  step-opening e = rw e refl
 
-  pub step-pieces : st .phase ≡ 1
-      → stepOf st y size a ≡ effectStep st size (effect (st .settings) a (top st .p) (range y (top st .y) (top st .q)) (numberedStage (st .settings) (top st .p) (top st .q) (st .stage)))
+  pub step-pieces : st .phase ≡ AtPieces → stepOf st y size a ≡ effectStep st size (effect (st .settings) a (top st .p) (range y (top st .y) (top st .q)) (st .stage))
   unfolding stepOf
-  step-pieces e = let n : (st .phase ≡ 0) → ⊥ = λ z. omega arith in rw (ne-eqb (st .phase) 0 n, eq-eqb (st .phase) 1 e) refl
+  step-pieces e = rw e refl
 
-  pub step-whole : 2 ≤ st .phase → stepOf st y size a ≡ wholeStep st size (theBits a)
+  pub step-whole : st .phase ≡ AtWhole → stepOf st y size a ≡ wholeStep st size (theBits a)
   unfolding stepOf
-  step-whole e = rw (ne-eqb (st .phase) 0 (λ z. omega arith), ne-eqb (st .phase) 1 (λ z. omega arith)) refl
+  step-whole e = rw e refl
 
 -- room for the bits that the run knows of, or is told of
 abbrev pub RoomFor : Settings → Run → Answer → List ℕ → List Row → Type 0
@@ -157,11 +142,11 @@ RoomFor S (whole n c segs rows) a bs₀ sh₀ = (bytesFor n ≤ length bs₀) ×
 module _ (S : Settings) (Y : List Bool) (L : Limits S) (y : List ℕ) (yr : range y 0 (length Y) ≡ Y) (bs₀ : List ℕ) (sh₀ : List Row) where
   -- the state's effect is the protocol's
   effect-same : (st : Rebuilder) (a : Answer) → st .settings ≡ S → top st .y + top st .q ≤ length Y
-      → effect (st .settings) a (top st .p) (range y (top st .y) (top st .q)) (numberedStage (st .settings) (top st .p) (top st .q) (st .stage))
-      ≡ effect S a (top st .p) (part Y (top st .y) (top st .q)) (numberedStage S (top st .p) (top st .q) (st .stage))
+      → effect (st .settings) a (top st .p) (range y (top st .y) (top st .q)) (st .stage)
+      ≡ effect S a (top st .p) (part Y (top st .y) (top st .q)) (st .stage)
   effect-same st a e h =
-      ap (λ (z : Settings). effect z a (top st .p) (range y (top st .y) (top st .q)) (numberedStage z (top st .p) (top st .q) (st .stage))) e
-      ∙ ap (λ (l : List Bool). effect S a (top st .p) l (numberedStage S (top st .p) (top st .q) (st .stage)))
+      ap (λ (z : Settings). effect z a (top st .p) (range y (top st .y) (top st .q)) (st .stage)) e
+      ∙ ap (λ (l : List Bool). effect S a (top st .p) l (st .stage))
       (ap (λ (n : ℕ). range y n (top st .q)) (sym (zero-add (top st .y))) ∙ sym (range-part y 0 (length Y) (top st .y) (top st .q) h) ∙ ap (λ (l : List Bool). part l (top st .y) (top st .q)) yr)
 
   working-step : (st : Rebuilder) (bs : List ℕ) (sh : List Row) (n c : ℕ) (segs : List Segment) (rows : List Row) (q : Question) (a : Answer) (size : ℕ)
@@ -170,52 +155,50 @@ module _ (S : Settings) (Y : List Bool) (L : Limits S) (y : List ℕ) (yr : rang
   unfolding top
   working-step st bs sh n c segs rows q a size h hd k o sz room =
       let hi = h .is in
-      let ep : atPieces ≡ numberedPhase (st .phase) = cc in
-      let ph = phase-one (st .phase) ep in
+      let ph : AtPieces ≡ st .phase = cc in
       let en : n ≡ st .n = cc in
       let es : stackOf 0 0 segs ≡ held (st .waiting) (st .pieces) = cc in
       let er : rows ≡ h .rows = cc in
-      let eg : stageOf segs ≡ stageHeld S (st .stage) (held (st .waiting) (st .pieces)) = cc in
+      let sg : stageOf segs ≡ st .stage = cc in
       let pos = some-held S Y L segs q (st .waiting) (st .pieces) k es in
       let pc = getD (st .pieces) (st .waiting - 1) noPiece in
       let below = held (st .waiting - 1) (st .pieces) in
       let ht = held-top (st .waiting) (st .pieces) pos in
       let pr = piece-ready S Y L n segs rows q a pc below o hd k (es ∙ ht) in
-      let sg : stageOf segs ≡ numberedStage S (pc .p) (pc .q) (st .stage) = eg ∙ ap (stageHeld S (st .stage)) ht in
-      let e₀ = effect S a (pc .p) (part Y (pc .y) (pc .q)) (numberedStage S (pc .p) (pc .q) (st .stage)) in
-      let e₁ = effect (st .settings) a (pc .p) (range y (pc .y) (pc .q)) (numberedStage (st .settings) (pc .p) (pc .q) (st .stage)) in
+      let e₀ = effect S a (pc .p) (part Y (pc .y) (pc .q)) (st .stage) in
+      let e₁ = effect (st .settings) a (pc .p) (range y (pc .y) (pc .q)) (st .stage) in
       let ee : e₁ ≡ e₀ = effect-same st a (h .settings) (pr .copy) in
       let wi : Within (st .n) pc e₀ = rw (sg, en) at (pr .within) in
       let prr = pr .room in let hu = h .used in let lr : length rows ≡ length (h .rows) = ap length er in
-      let onr = one-new-row S pc (effect S a (pc .p) (part Y (pc .y) (pc .q)) (numberedStage S (pc .p) (pc .q) (st .stage))) in
+      let onr = one-new-row S pc (effect S a (pc .p) (part Y (pc .y) (pc .q)) (st .stage)) in
       let fw : length (held (st .waiting) (st .pieces)) ≡ total isWait segs = ap length (sym es) ∙ stack-length 0 0 segs in
       let hl = held-length (st .waiting) (st .pieces) in
       let hf = hd .few in
       let pl : length (part Y (pc .y) (pc .q)) ≡ pc .q = part-length S L Y (pc .y) (pc .q) (pr .copy) in
-      let nx : IsNext S (pc .p) (pc .q) (st .stage) e₀ = rw pl at (next-numbered S a (pc .p) (part Y (pc .y) (pc .q)) (st .stage)) in
+      let nx : IsNext S (pc .p) (pc .q) (st .stage) e₀ = rw pl at (is-next S a (pc .p) (part Y (pc .y) (pc .q)) (st .stage)) in
       let se = stands-effect S (length Y) bs₀ sh₀ st bs sh (storeOf (working n c segs rows)) h pos (omega arith) size e₀ wi (omega arith) nx in
       let left : stepStore S Y (storeOf (working n c segs rows)) a ≡ applied S (st .n) (st .counted + size) pc below (h .str) (h .rows) e₀ =
       ap (λ (z : Store). stepStore S Y z a) (h .is)
-      ∙ ap₂ (λ (f : ℕ) (l : List Piece). stepStore S Y (store (numberedPhase f) (st .n) (st .counted) (stageHeld S (st .stage) l) l (h .str) (h .rows)) a) ph ht
+      ∙ ap₂ (λ (f : Phase) (l : List Piece). stepStore S Y (store f (st .n) (st .counted) (st .stage) l (h .str) (h .rows)) a) (sym ph) ht
       ∙ ap (λ (z : ℕ). applied S (st .n) (st .counted + z) pc below (h .str) (h .rows) e₀) (sym sz) in
-      rw (step-pieces st y size a ph, ee, left) se
+      rw (step-pieces st y size a (sym ph), ee, left) se
 
   pub stands-step : (st : Rebuilder) (bs : List ℕ) (sh : List Row) (asked : ℕ) (s : Run) (q : Question) (a : Answer) (size : ℕ)
       → Stands S (length Y) bs₀ sh₀ 0 st bs sh (storeOf s) → Inv S Y asked s → question S s ≡ some q → Proper S q a → size ≡ sizeOf a → RoomFor S s a bs₀ sh₀
       → Stands S (length Y) bs₀ sh₀ (zeroedNext s) (stepOf st y size a .state) (stringAfter bs (stepOf st y size a .string)) (sheetAfter sh (stepOf st y size a .sheet)) (stepStore S Y (storeOf s) a)
   stands-step st bs sh asked opening q a size h i k o sz room =
       let hi = h .is in
-      let ep : atOpening ≡ numberedPhase (st .phase) = cc in
+      let ep : AtOpening ≡ st .phase = cc in
       let es : h .str ≡ [] = cc in
       let er : h .rows ≡ [] = cc in
-      rw (step-opening st y size a (phase-none (st .phase) ep))
+      rw (step-opening st y size a (sym ep))
       (stands-opening S (length Y) bs₀ sh₀ st bs sh (theSize a)
       (h .string ∙ ap (λ (l : List Bool). atFront (pack l) bs₀) es ∙ ap (λ (m : List ℕ). atFront m bs₀) pack-none) (h .sheet ∙ ap (λ (l : List Row). rowsAtFront l 0 sh₀) er)
       (h .settings) (h .copy) (h .array) (room .0))
   stands-step st bs sh asked (working n c segs rows) q a size h i k o sz room = working-step st bs sh n c segs rows q a size h (i .0) k o sz (room .1)
   stands-step st bs sh asked (whole n c segs rows) q a size h i k o sz room =
       let hi = h .is in
-      let ep : atWhole ≡ numberedPhase (st .phase) = cc in
+      let ep : AtWhole ≡ st .phase = cc in
       let en : n ≡ st .n = cc in
       let ec : c ≡ st .counted = cc in
       let er : h .rows ≡ rows = cc in
@@ -225,6 +208,6 @@ module _ (S : Settings) (Y : List Bool) (L : Limits S) (y : List ℕ) (yr : rang
       let eq : AskBits 0 n ≡ q = cc in
       let pb : length (theBits a) ≡ n = proper-bits S 0 n a (rw (← eq) at o) in
       let rm = room .1 in
-      let e : stepStore S Y (storeOf (whole n c segs rows)) a ≡ store atPieces (st .n) (st .counted + size) hashing [] (theBits a) (row 0 (st .n) ByBits ∷ []) =
-      (λ j. store atPieces (en j) (ec j + sym sz j) hashing [] (theBits a) (row 0 (en j) ByBits ∷ [])) in
-      rw (step-whole st y size a (phase-two (st .phase) ep), e, ← lr) (stands-whole S (length Y) bs₀ sh₀ st bs sh (storeOf (whole n c segs rows)) h size (theBits a) (pb ∙ en) (omega arith) (omega arith))
+      let e : stepStore S Y (storeOf (whole n c segs rows)) a ≡ store AtPieces (st .n) (st .counted + size) Hashing [] (theBits a) (row 0 (st .n) ByBits ∷ []) =
+      (λ j. store AtPieces (en j) (ec j + sym sz j) Hashing [] (theBits a) (row 0 (en j) ByBits ∷ [])) in
+      rw (step-whole st y size a (sym ep), e, ← lr) (stands-whole S (length Y) bs₀ sh₀ st bs sh (storeOf (whole n c segs rows)) h size (theBits a) (pb ∙ en) (omega arith) (omega arith))

@@ -22,7 +22,7 @@ use Rattle.ends.specs.laws.Right.{begin-span}
 use Rattle.ends.specs.Runs.{Run, advance, bitsOf, blank, copies, judge, opening, question, sizeOf, string, whole, working}
 use Rattle.ends.specs.laws.SegmentLaws.{Chain, ask-waits, chain-end, copies-append}
 use Rattle.ends.specs.Claims.{total}
-use Rattle.ends.specs.Segments.{Effect, Segment, Stage, anchors, ask, asks, begin, dropped, effect, firstStage, hashOf, hashing, made, newRows, placed, puttingIn, retry, row, rowsOf, settled, settles, span, splits, stays, step, takingOut, theBits, theHash, theSize, theSyndrome, trial, trialOf, waiting, waits, work}
+use Rattle.ends.specs.Segments.{Effect, Segment, Stage, ask, asks, begin, dropped, effect, firstStage, hashOf, Hashing, made, newRows, placed, PuttingIn, retry, row, rowsOf, settled, settles, span, splits, stays, step, TakingOut, theBits, theHash, theSize, theSyndrome, trial, trialOf, waiting, waits, work, offset, afterAnchor}
 use Rattle.ends.specs.laws.Shape.{Proper, Shape}
 use Rattle.ends.specs.declared.How.{How}
 use Rattle.ends.specs.declared.How.the-variants.{ByAnchor, ByBits, ByHash, ByPutIn, ByTakeOut}
@@ -31,11 +31,11 @@ use Rattle.ends.specs.declared.Row.{Row}
 use Rattle.strings.specs.declared.settings.Settings.{Settings}
 use Rattle.strings.specs.laws.Tests.{by-test, true-false}
 use Rattle.strings.specs.laws.WriteLaws.{over}
+use Rattle.ends.specs.declared.Stage.the-variants.{Anchor, AllBits}
+use Rattle.ends.specs.declared.Phase.{Phase}
+use Rattle.ends.specs.declared.Phase.the-variants.{AtOpening, AtPieces, AtWhole}
 
 -- ---- the state in numbers: a device of the proofs between the runs and the state struct
-pub data Phase : Type 0 where
-  atOpening atPieces atWhole : Phase
-
 -- the phase, n, the counted bytes, the leftmost piece's stage, the waiting pieces with the leftmost first, the string's bits, the rows
 pub data Store : Type 0 where
   store : Phase → (n count : ℕ) → Stage → List Piece → List Bool → List Row → Store
@@ -45,7 +45,7 @@ push pc l = cond (eqb (pc .p) 0) l (pc ∷ l)
 
 -- the stage at which the leftmost piece begins
 abbrev pub topStage : Settings → List Piece → Stage
-topStage S [] = hashing
+topStage S [] = Hashing
 topStage S (pc ∷ l) = firstStage S (pc .p) (pc .q)
 
 abbrev pub anyPiece : List Piece → Bool
@@ -53,7 +53,7 @@ anyPiece [] = false
 anyPiece (pc ∷ l) = true
 
 abbrev pub phaseOf : Settings → ℕ → List Piece → Phase
-phaseOf S c st = cond (ltb (S .ceiling) c && anyPiece st) atWhole atPieces
+phaseOf S c st = cond (ltb (S .ceiling) c && anyPiece st) AtWhole AtPieces
 
 abbrev pub stackAfter : Settings → Piece → List Piece → Effect → List Piece
 stackAfter S pc st (settles w b) = st
@@ -83,21 +83,21 @@ applied S n c pc st str rows e =
 
 -- one answer
 abbrev pub stepStore : Settings → List Bool → Store → Answer → Store
-stepStore S Y (store atOpening n c t st str rows) a =
-    store atPieces (theSize a) 0 (topStage S (push (record { x = 0; p = theSize a; y = 0; q = length Y }) [])) (push (record { x = 0; p = theSize a; y = 0; q = length Y }) []) (blank (theSize a)) []
-stepStore S Y (store atPieces n c t [] str rows) a = store atPieces n c t [] str rows
-stepStore S Y (store atPieces n c t (pc ∷ st) str rows) a =
+stepStore S Y (store AtOpening n c t st str rows) a =
+    store AtPieces (theSize a) 0 (topStage S (push (record { x = 0; p = theSize a; y = 0; q = length Y }) [])) (push (record { x = 0; p = theSize a; y = 0; q = length Y }) []) (blank (theSize a)) []
+stepStore S Y (store AtPieces n c t [] str rows) a = store AtPieces n c t [] str rows
+stepStore S Y (store AtPieces n c t (pc ∷ st) str rows) a =
     applied S n (c + sizeOf a) pc st str rows (effect S a (pc .p) (part Y (pc .y) (pc .q)) t)
-stepStore S Y (store atWhole n c t st str rows) a = store atPieces n (c + sizeOf a) hashing [] (theBits a) (row 0 n ByBits ∷ [])
+stepStore S Y (store AtWhole n c t st str rows) a = store AtPieces n (c + sizeOf a) Hashing [] (theBits a) (row 0 n ByBits ∷ [])
 
 abbrev pub askTop : Settings → Stage → List Piece → Option Question
 askTop S t [] = none
 askTop S t (pc ∷ st) = some (asks S (pc .x) (pc .p) t)
 
 abbrev pub askStore : Settings → Store → Option Question
-askStore S (store atOpening n c t st str rows) = some (AskOpen (S .h) (S .key))
-askStore S (store atPieces n c t st str rows) = askTop S t st
-askStore S (store atWhole n c t st str rows) = some (AskBits 0 n)
+askStore S (store AtOpening n c t st str rows) = some (AskOpen (S .h) (S .key))
+askStore S (store AtPieces n c t st str rows) = askTop S t st
+askStore S (store AtWhole n c t st str rows) = some (AskBits 0 n)
 
 -- ---- the state that a run has
 abbrev pub stackOf : ℕ → ℕ → List Segment → List Piece
@@ -107,15 +107,15 @@ stackOf x y (settled w ys b ∷ r) = stackOf (x + length b) (y + length ys) r
 stackOf x y (waiting p ys t ∷ r) = record { x = x; p = p; y = y; q = length ys } ∷ stackOf (x + p) (y + length ys) r
 
 abbrev pub stageOf : List Segment → Stage
-stageOf [] = hashing
+stageOf [] = Hashing
 stageOf (dropped ys ∷ r) = stageOf r
 stageOf (settled w ys b ∷ r) = stageOf r
 stageOf (waiting p ys t ∷ r) = t
 
 abbrev pub storeOf : Run → Store
-storeOf opening = store atOpening 0 0 hashing [] [] []
-storeOf (working n c segs rows) = store atPieces n c (stageOf segs) (stackOf 0 0 segs) (string segs) rows
-storeOf (whole n c segs rows) = store atWhole n c (stageOf segs) (stackOf 0 0 segs) (string segs) rows
+storeOf opening = store AtOpening 0 0 Hashing [] [] []
+storeOf (working n c segs rows) = store AtPieces n c (stageOf segs) (stackOf 0 0 segs) (string segs) rows
+storeOf (whole n c segs rows) = store AtWhole n c (stageOf segs) (stackOf 0 0 segs) (string segs) rows
 
 -- ---- all but the leftmost waiting piece are at their first stage
 abbrev pub Fresh : Settings → List Segment → Type 0
@@ -290,13 +290,13 @@ module _ (S : Settings) where
 
   pub landed : (a : Answer) (p : ℕ) (ys : List Bool) (t : Stage) → Landed S ys (effect S a p ys t)
   unfolding effect
-  landed a p ys hashing = trial-landed (theHash a) p ByHash ys ys
-  landed a p ys puttingIn = trialOf-landed (theHash a) p ByPutIn ys (putIn (theSyndrome a) ys)
-  landed a p ys takingOut = trialOf-landed (theHash a) p ByTakeOut ys (takeOut (theSyndrome a) ys)
-  landed a p ys (anchors []) = tt
-  landed a p ys (anchors (s ∷ l)) = go (place (S .m) (S .k) p s ys (theBits a)) (place-within S p s ys (theBits a))
+  landed a p ys Hashing = trial-landed (theHash a) p ByHash ys ys
+  landed a p ys PuttingIn = trialOf-landed (theHash a) p ByPutIn ys (putIn (theSyndrome a) ys)
+  landed a p ys TakingOut = trialOf-landed (theHash a) p ByTakeOut ys (takeOut (theSyndrome a) ys)
+  landed a p ys AllBits = tt
+  landed a p ys (Anchor i) = go (place (S .m) (S .k) p (offset (S .m) p i) ys (theBits a)) (place-within S p (offset (S .m) p i) ys (theBits a))
     where
-      go : (o : Option ℕ) → IfAny (λ r. r + S .m ≤ length ys) o → Landed S ys (placed s (theBits a) l o)
+      go : (o : Option ℕ) → IfAny (λ r. r + S .m ≤ length ys) o → Landed S ys (placed (offset (S .m) p i) (theBits a) (afterAnchor i) o)
       go none h = tt
       go (some r) h = h
 
@@ -413,7 +413,7 @@ module _ (S : Settings) (Y : List Bool) (L : Limits S) where
   unfolding judge
   judge-is n c segs rows = rw (stack-waits 0 0 segs) (go (ltb (S .ceiling) c && waits segs))
     where
-      go : (t : Bool) → storeOf (cond t (whole n c segs rows) (working n c segs rows)) ≡ store (cond t atWhole atPieces) n c (stageOf segs) (stackOf 0 0 segs) (string segs) rows
+      go : (t : Bool) → storeOf (cond t (whole n c segs rows) (working n c segs rows)) ≡ store (cond t AtWhole AtPieces) n c (stageOf segs) (stackOf 0 0 segs) (string segs) rows
       go true = refl
       go false = refl
 
@@ -452,7 +452,7 @@ module _ (S : Settings) (Y : List Bool) (L : Limits S) where
       let left : storeOf (judge S n c′ (step S a segs) (rows ++ newRows S a 0 segs)) ≡ applied S n c′ pc st str rows e =
       judge-is n c′ (step S a segs) (rows ++ newRows S a 0 segs) ∙ (λ i. store (phaseOf S c′ (d₁ i)) n c′ (d₂ i) (d₁ i) (d₃ i) (rows ++ d₄ i)) in
       let right : stepStore S Y (storeOf (working n c segs rows)) a ≡ applied S n c′ pc st str rows e =
-      (λ i. stepStore S Y (store atPieces n c (e₂ i) (e₁ i) (e₃ i) rows) a) ∙ ap (λ (l : List Bool). applied S n c′ pc st str rows (effect S a p l t)) e₄ in
+      (λ i. stepStore S Y (store AtPieces n c (e₂ i) (e₁ i) (e₃ i) rows) a) ∙ ap (λ (l : List Bool). applied S n c′ pc st str rows (effect S a p l t)) e₄ in
       left ∙ sym right
 
   judge-tidy : (n c : ℕ) (segs : List Segment) (rows : List Row) → FreshTail S segs → Tidy S (judge S n c segs rows)
@@ -475,7 +475,7 @@ module _ (S : Settings) (Y : List Bool) (L : Limits S) where
       let en = chain-end (Shape S n) x₀ (x₀ + p) (work S a p ys t) (work-chain S Y L n q a o x₀ p ys t g d) in
       let z : total span (work S a p ys t) ≡ p = omega arith in
       rw is (
-        at-piece n c front rest p ys t rows a w f (sane S a p ys t (g .1)) z (rw is at cp),
+        at-piece n c front rest p ys t rows a w f (sane S L a p ys t (g .1)) z (rw is at cp),
         rw (step-front S a front (waiting p ys t ∷ rest) w) (tail-front S front (work S a p ys t ++ rest) w (tail-is S L p ys rest 0 0 (effect S a p ys t) f)),
       )
 
@@ -488,11 +488,11 @@ module _ (S : Settings) (Y : List Bool) (L : Limits S) where
       let fr : Fresh S (begin S n Y ∷ []) = begin-fresh S n Y [] tt in
       let b₂ : stageOf (begin S n Y ∷ []) ≡ topStage S (push (record { x = 0; p = n; y = 0; q = length Y }) []) = fresh-stage S 0 0 (begin S n Y ∷ []) fr ∙ ap (topStage S) b₁ in
       let b₃ : string (begin S n Y ∷ []) ≡ blank n = append-nil (bitsOf (begin S n Y)) ∙ begin-bits S n Y in
-      ((λ j. store atPieces n 0 (b₂ j) (b₁ j) (b₃ j) []), fresh-tail S (begin S n Y ∷ []) fr)
+      ((λ j. store AtPieces n 0 (b₂ j) (b₁ j) (b₃ j) []), fresh-tail S (begin S n Y ∷ []) fr)
   keeps-pace asked (working n c segs rows) q a o i t k =
       let h = i .0 in
       let u = firstWaiting segs (ask-waits S q 0 segs k) in
       let r = keeps-step n c segs (u .front) (u .rest) (u .len) (u .copy) (u .stage) rows q a o (u .is) (u .still) t (h .tiles) (h .copy) k in
       (r .0, judge-tidy n (c + sizeOf a) (step S a segs) (rows ++ newRows S a 0 segs) (r .1))
   keeps-pace asked (whole n c segs rows) q a o i t k =
-      ((λ j. store atPieces n (c + sizeOf a) hashing [] (append-nil (theBits a) j) (row 0 n ByBits ∷ [])), tt)
+      ((λ j. store AtPieces n (c + sizeOf a) Hashing [] (append-nil (theBits a) j) (row 0 n ByBits ∷ [])), tt)
