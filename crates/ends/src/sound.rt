@@ -165,7 +165,8 @@ fn asks_fit(st: Rebuilder) -> bool
     let n = wide(st.n);
     let m = wide(st.settings.m);
     let answered = wide(st.answered);
-    let before = wide(asks_before(st.stage));
+    let stage = st.stage;
+    let before = wide(asks_before(stage));
     let left = work_left(st, 9, 5);
     answered + left <= 9 * (n / m) + 6 + before
 }
@@ -214,11 +215,12 @@ fn top_stage_fits(st: Rebuilder) -> bool
     requires { ⌜ Sized st ⌝ }
     ensures { λ r. ⌜ r ≡ topFits st ⌝ }
 {
+    let stage = st.stage;
     if st.waiting == 0 {
-        return is_hashing(st.stage);
+        return is_hashing(stage);
     }
     let pc = top(st);
-    stage_fits(st.settings, pc.p, pc.q, st.stage)
+    stage_fits(st.settings, pc.p, pc.q, stage)
 }
 
 // Whether the waiting pieces, the stage and the used rows are such as a run can hold.
@@ -264,7 +266,8 @@ fn most_counted(st: Rebuilder) -> u32
 fn opening_is_sound(st: Rebuilder) -> bool
     ensures { λ r. ⌜ r ≡ openingSound st ⌝ }
 {
-    let rest = both(st.rows == 0, both(is_hashing(st.stage), st.waiting == 0));
+    let stage = st.stage;
+    let rest = both(st.rows == 0, both(is_hashing(stage), st.waiting == 0));
     both(
         st.n == 0,
         both(st.answered == 0, both(st.counted == 0, rest)),

@@ -36,10 +36,11 @@ fn with_stack(st: Rebuilder, stage: Stage, waiting: u32, pieces: [Piece; 32]) ->
     ensures { λ r. ⌜ r ≡ stacked st stage waiting pieces ⌝ }
 {
     let settings = st.settings;
+    let phase = st.phase;
     Rebuilder {
         settings: settings,
         ybits: st.ybits,
-        phase: st.phase,
+        phase: phase,
         n: st.n,
         answered: st.answered,
         counted: st.counted,
@@ -55,6 +56,7 @@ fn with_counts(st: Rebuilder, phase: Phase, answered: u32, counted: u32, rows: u
     ensures { λ r. ⌜ r ≡ counting st phase answered counted rows ⌝ }
 {
     let settings = st.settings;
+    let stage = st.stage;
     let pieces = st.pieces;
     Rebuilder {
         settings: settings,
@@ -64,7 +66,7 @@ fn with_counts(st: Rebuilder, phase: Phase, answered: u32, counted: u32, rows: u
         answered: answered,
         counted: counted,
         rows: rows,
-        stage: st.stage,
+        stage: stage,
         waiting: st.waiting,
         pieces: pieces,
     }
@@ -202,7 +204,8 @@ pub fn retry(st: Rebuilder) -> Rebuilder
     ensures { λ r. ⌜ r ≡ retried st ⌝ }
 {
     let pc = top(st);
-    let t = next_stage(st.settings, pc.p, pc.q, st.stage);
+    let stage = st.stage;
+    let t = next_stage(st.settings, pc.p, pc.q, stage);
     let pieces = st.pieces;
     with_stack(st, t, st.waiting, pieces)
 }
@@ -348,7 +351,8 @@ pub fn plan_next(st: Rebuilder) -> Plan
                 return Plan::Finished;
             }
             let t = top(st);
-            Plan::Ask(ask_for(st.settings, t, st.stage))
+            let stage = st.stage;
+            Plan::Ask(ask_for(st.settings, t, stage))
         }
     }
 }

@@ -49,7 +49,7 @@ use Rattle.ends.specs.Soundness.{sound, openingSound, phaseSound}
 use Rattle.ends.specs.laws.SoundParts.{Framed, sound-is, phase-whole, OpeningIs, opening-is, WholeIs, whole-is, PiecesIs, top-is, ask-inside, PhaseOf, isOpening, isPieces, isWhole, phase-of}
 use Rattle.ends.specs.laws.SoundSteps.{fresh-sound, opening-sound, whole-sound}
 use Rattle.ends.specs.laws.Steps.{step-opening, step-whole}
-use Rattle.ends.specs.RebuilderCall.{Taken, refuses, openingStep, wholeState, wholeStep, stepOf, questionLength, Rooms, roomFor, hears, awaits, rebuilderCall, Started, starts, startDeclines, rebuilderStart, freshRebuilder}
+use Rattle.ends.specs.RebuilderCall.{bitsKnown, Taken, refuses, openingStep, wholeState, wholeStep, stepOf, questionLength, Rooms, roomFor, hears, awaits, rebuilderCall, Started, starts, startDeclines, rebuilderStart, freshRebuilder}
 use Rattle.ends.specs.declared.rebuilding.RebuilderOut.{RebuilderOut}
 use Rattle.ends.specs.declared.rebuilding.StartAnswer.the-variants.{Begun, NotBegun}
 use Rattle.ends.specs.declared.rebuilding.StartOut.{StartOut}
@@ -146,6 +146,12 @@ module _ (st : Rebuilder) (size room : ℕ) (k : BitsDue st size room) where
       go : (WholeDue st size room) ⊎ (Acting st size room × AsksBits (st .stage)) → ⊥
       go (inl w) = whole-opening (w .phase) e
       go (inr a) = pieces-opening (a .0 .phase) e
+
+pub stage-asks : {t u : Stage} → t ≡ u → AsksBits t → AsksBits u
+stage-asks e h = rw e at h
+
+pub stage-bits : (st : Rebuilder) {t u : Stage} → t ≡ u → bitsOfStage st t ≡ bitsOfStage st u
+stage-bits st e = ap (bitsOfStage st) e
 
 module _ (st : Rebuilder) where
   pub due-whole : st .phase ≡ AtWhole → dueLength st ≡ st .n

@@ -37,7 +37,7 @@ use Rattle.ends.specs.declared.Rebuilder.{Rebuilder}
 use Rattle.ends.specs.declared.SheetChange.{SheetChange}
 use Rattle.ends.specs.declared.SheetChange.the-variants.{NoRow, AddRow}
 use Rattle.ends.specs.laws.Moves.{moved-effect}
-use Rattle.ends.specs.Segments.{Stage, placed, laterStage, settles, stays, splits, effect, trialOf, retry, hashOf, row, howNumber, afterAnchor, asks}
+use Rattle.ends.specs.Segments.{placed, laterStage, settles, stays, splits, effect, trialOf, retry, hashOf, row, howNumber, afterAnchor, asks, offset}
 use Rattle.ends.specs.laws.Right.{Fit, Long, offset-fits}
 use Rattle.ends.specs.States.{top, popped, restaged, retried, splitAt, planned}
 use Rattle.ends.specs.Soundness.{sound, asksBefore}
@@ -65,6 +65,7 @@ use Rattle.ends.specs.declared.Stage.the-variants.{Hashing, PuttingIn, T
 use Rattle.ends.specs.declared.Attempt.{Attempt}
 use Rattle.ends.specs.declared.Attempt.the-variants.{First, Second, Third}
 use Rattle.ends.specs.declared.Phase.the-variants.{AtPieces}
+use Rattle.ends.specs.declared.Stage.{Stage}
 
 -- ---- the question that a sound state writes
 pub question-range : (s : Rebuilder) (q : Question) → sound s ≡ true → planned s ≡ some q → InRange (max 1 (s .n)) q × (s .n ≤ maxBits)
@@ -145,6 +146,13 @@ retriable-low AllBits h = absurd h
 
 before-last : (i : Attempt) → asksBefore (Anchor i) < 4
 before-last i = retriable-low (Anchor i) tt
+
+pub early : {t : Stage} (u : Stage) → t ≡ u → Retriable u → Retriable t
+early u e r = rw e r
+
+pub repair-early : (st : Rebuilder) → RepairDue st → Retriable (st .stage)
+repair-early st (putsIn e h) = early PuttingIn e tt
+repair-early st (takesOut e h) = early TakingOut e tt
 
 -- ---- what is known of a state that takes an answer for its leftmost piece
 module _ (st : Rebuilder) (size room : ℕ) (k : Acting st size room) where

@@ -1,5 +1,5 @@
 -- What the functions of src/sound.rt require, and laws for their proofs. The test itself is defined in Soundness.
-use mathlib.Core.Path.{_≡_, refl, ap}
+use mathlib.Core.Path.{_≡_, refl, sym, ap, _∙_}
 use mathlib.Core.Bool.{Bool, true, false, _&&_}
 use mathlib.Core.List.{List, [], _∷_}
 use Prim.Native.Nat.{ℕ, suc, _+_, _-_, _*_, _/_, _≤_, _<_}
@@ -11,10 +11,11 @@ use borrow.Author.Tests.{lt-leb, le-leb}
 use Rattle.ends.specs.declared.Piece.{Piece}
 use Rattle.ends.specs.declared.Rebuilder.{Rebuilder}
 use Rattle.strings.specs.SettingLimits.{Limits, withinLimits}
-use Rattle.ends.specs.Soundness.{bound, isBlank, blankFrom, pieceFits, inOrder, rowsLeft, asksLeft, phaseSound, sound}
+use Rattle.ends.specs.Soundness.{bound, isBlank, blankFrom, pieceFits, inOrder, rowsLeft, asksLeft, phaseSound, sound, soundAt}
 use Rattle.ends.specs.States.{noPiece, held}
 use Rattle.ends.specs.laws.StackLaws.{held-length}
 use Rattle.strings.specs.Bits.{maxBits}
+use Rattle.ends.specs.declared.Phase.{Phase}
 
 -- the sum of a·floor(p/m) + b over pieces
 unfoldable pub workLeft : (a b m : ℕ) → List Piece → ℕ
@@ -105,6 +106,9 @@ asks-left m (pc ∷ l) = ap (λ (k : ℕ). 9 * (pc .p / m) + 5 + k) (asks-left m
 
 -- ---- the test by its cases
 module _ (st : Rebuilder) where
+  pub sound-phase : (ph : Phase) → st .phase ≡ ph → {r : Bool} → r ≡ soundAt ph st → r ≡ phaseSound st
+  sound-phase ph e f = f ∙ ap (λ (p : Phase). soundAt p st) (sym e)
+
   pub sound-settings : (t : Bool) → t ≡ withinLimits (st .settings) → t ≡ false → false ≡ sound st
   unfolding sound
   sound-settings t e f = rw (← e, f) refl

@@ -1,5 +1,5 @@
 -- What the functions of src/state.rt require, and laws for their proofs.
-use mathlib.Core.Path.{_≡_, refl, ap, _∙_}
+use mathlib.Core.Path.{_≡_, refl, sym, ap, _∙_}
 use mathlib.Core.Bool.{cond, _||_}
 use mathlib.Core.Option.{Option, none, some}
 use Prim.Native.Nat.{ℕ, _+_, _-_, _*_, _≤_, _<_}
@@ -12,14 +12,18 @@ use Rattle.messages.specs.declared.Question.{Question}
 use Rattle.strings.specs.declared.settings.Settings.{Settings}
 use Rattle.ends.specs.declared.Piece.{Piece}
 use Rattle.ends.specs.declared.Rebuilder.{Rebuilder}
-use Rattle.ends.specs.States.{top, stacked, popped, pushed, restaged, splitAt, leftPiece, rightPiece}
+use Rattle.ends.specs.States.{top, stacked, popped, pushed, restaged, splitAt, leftPiece, rightPiece, plannedAt, planned}
 use Rattle.ends.specs.declared.state.Plan.{Plan}
 use Rattle.ends.specs.declared.state.Plan.the-variants.{Ask, Finished}
 use Rattle.ends.specs.declared.Stage.{Stage}
-use Rattle.ends.specs.declared.Stage.the-variants.{Anchor}
+use Rattle.ends.specs.declared.Stage.the-variants.{Anchor, Hashing, PuttingIn, TakingOut}
 use Rattle.ends.specs.declared.Attempt.{Attempt}
 use Rattle.ends.specs.declared.Phase.the-variants.{AtPieces}
 use Rattle.strings.specs.Bits.{maxBits}
+use Rattle.ends.specs.declared.Attempt.the-variants.{First, Second, Third}
+use Rattle.ends.specs.Segments.{offset, firstStage, laterStage}
+use borrow.Author.Tests.{eq-eqb, ne-eqb}
+use Rattle.ends.specs.declared.Phase.{Phase}
 
 -- a planned question as the code hands it on
 abbrev pub planOf : Option Question → Plan
@@ -107,3 +111,32 @@ pub split-is : (st one two three four : Rebuilder) (t : Piece) (s r : ℕ) → t
     → three ≡ pushed two (leftPiece t s r) → four ≡ restaged three → four ≡ splitAt st s r
 unfolding splitAt
 split-is st one two three four t s r a b c d e = rw (e, d, c, b, a) refl
+
+-- ---- stages
+pub offset-below : (m p : ℕ) (i : Attempt) → 4 * m ≤ p → offset m p i ≤ p
+offset-below m p First h = omega arith
+offset-below m p Second h = omega arith
+offset-below m p Third h = omega arith
+
+-- the stage at which a piece begins, from the wider numbers a and b
+module _ (S : Settings) (p q a b : ℕ) (e : a ≡ p) (f : b ≡ q) where
+  pub stage-same : b ≡ a → Hashing ≡ firstStage S p q
+  unfolding firstStage
+  stage-same h = rw (eq-eqb q p (omega arith)) refl
+
+  pub stage-less : b + 1 ≡ a → PuttingIn ≡ firstStage S p q
+  unfolding firstStage
+  stage-less h = rw (ne-eqb q p (λ z. omega arith), eq-eqb (q + 1) p (omega arith)) refl
+
+  pub stage-more : b ≡ a + 1 → TakingOut ≡ firstStage S p q
+  unfolding firstStage
+  stage-more h = rw (ne-eqb q p (λ z. omega arith), ne-eqb (q + 1) p (λ z. omega arith), eq-eqb q (p + 1) (omega arith)) refl
+
+  pub stage-far : (b ≡ a → ⊥) → (b + 1 ≡ a → ⊥) → (b ≡ a + 1 → ⊥) → {t : Stage} → t ≡ laterStage S p q → t ≡ firstStage S p q
+  unfolding firstStage
+  stage-far h k l d = rw (ne-eqb q p (λ z. h (omega arith)), ne-eqb (q + 1) p (λ z. k (omega arith)), ne-eqb q (p + 1) (λ z. l (omega arith))) d
+
+-- ---- the question, by what is awaited
+pub plan-at : (st : Rebuilder) (ph : Phase) → st .phase ≡ ph → {r : Plan} → r ≡ planOf (plannedAt ph st) → r ≡ planOf (planned st)
+unfolding planned
+plan-at st ph e f = f ∙ ap (λ (p : Phase). planOf (plannedAt p st)) (sym e)

@@ -20,12 +20,14 @@ use Rattle.ends.specs.declared.Holder.{Holder}
 use Rattle.ends.specs.declared.Rebuilder.{Rebuilder}
 use Rattle.strings.specs.SettingLimits.{houseSettings, withinLimits}
 use Rattle.ends.specs.Anchors.{isqrt, place}
-use Rattle.ends.specs.Segments.{hashOf, laterStage, effect}
-use Rattle.ends.specs.States.{noPiece, laterNumber, firstNumber, nextNumber, anchorOffset, top, popped, pushed, restaged, retried, splitAt, askFor, planned}
+use Rattle.ends.specs.Segments.{hashOf, laterStage, effect, firstStage}
+use Rattle.ends.specs.States.{noPiece, top, popped, pushed, restaged, retried, splitAt, planned}
 use Rattle.ends.specs.Soundness.{holderSound, isBlank, blankFrom, pieceFits, inOrder, rowsLeft, asksLeft, stageFits, stackSound, topFits, openingSound, piecesSound, wholeSound, sound}
 use Rattle.ends.specs.HolderCall.{Heard, declines, replies, freshHolder, sameBitCount, sends, holderCall}
 use Rattle.ends.specs.RebuilderCall.{Started, startDeclines, starts, rebuilderStart, Step, Taken, refuses, takes, noRow, stringAfter, sheetAfter, tallied, effectStep, openingStep, wholeStep, stepOf, rebuilderCall, freshRebuilder}
 use Rattle.ends.specs.Worlds.{Call, toHolder, toRebuilder, Lent, roomsOf, world, firstWorld, worldAfter}
+use Rattle.ends.specs.declared.Stage.the-variants.{Hashing}
+use Rattle.ends.specs.declared.Phase.the-variants.{AtPieces}
 
 -- ---- the lines that are printed
 pub data Line : Type 0 where
@@ -164,8 +166,8 @@ pub record Demo : Type 0 where
   -- and its calls from there on. The opening sent twice and a message that ends inside its hash are turned down and change nothing;
   -- byte 07 behind the string and the unused row keep what they had
   pub all-calls : worldAfter exampleLent (firstWorld (freshRebuilder (upTo 100) 3) opening (0xff ∷ 0x07 ∷ []) (nines ∷ nines ∷ [])) exampleCalls
-      ≡ world (record { opened = 1; bits = 4; h = 8; key = 1; answers = 2 })
-      (record { settings = upTo 100; ybits = 3; phase = 1; n = 4; answered = 2; counted = 4; rows = 1; stage = 0; waiting = 0; pieces = replicate 32 noPiece })
+      ≡ world (record { opened = true; bits = 4; h = 8; key = 1; answers = 2 })
+      (record { settings = upTo 100; ybits = 3; phase = AtPieces; n = 4; answered = 2; counted = 4; rows = 1; stage = Hashing; waiting = 0; pieces = replicate 32 noPiece })
       (0xb0 ∷ 0x07 ∷ [])
       (record { start = 0; len = 4; how = 2 } ∷ nines ∷ [])
       []
@@ -173,5 +175,5 @@ pub record Demo : Type 0 where
       ((0x02 ∷ 0x03 ∷ 0xab ∷ 0x01 ∷ []) ∷ (0x00 ∷ 0x04 ∷ []) ∷ [])
 
 pub demo : Demo
-unfolding bitAt range flipped setBit writeBits pack cleared sameBits noneSet stringRule syndrome insertions deletions withSyndrome putIn takeOut xorLeft xorRight step hashFrom hash groups number nextByte numberAt kindAt questionBytes openingAt rangeAt fieldsAt answerBytes sizeAt hashAt syndromeAt bitsAt answerFields readAnswer withinLimits isqrt place hashOf laterStage effect laterNumber firstNumber nextNumber anchorOffset top popped pushed restaged retried splitAt askFor planned holderSound isBlank blankFrom pieceFits inOrder rowsLeft asksLeft stageFits topFits stackSound openingSound piecesSound wholeSound sound sameBitCount sends holderCall rebuilderStart tallied effectStep openingStep wholeStep stepOf rebuilderCall
+unfolding bitAt range flipped setBit writeBits pack cleared sameBits noneSet stringRule syndrome insertions deletions withSyndrome putIn takeOut xorLeft xorRight step hashFrom hash groups number nextByte numberAt kindAt questionBytes openingAt rangeAt fieldsAt answerBytes sizeAt hashAt syndromeAt bitsAt answerFields readAnswer withinLimits isqrt place hashOf laterStage effect firstStage top popped pushed restaged retried splitAt planned holderSound isBlank blankFrom pieceFits inOrder rowsLeft asksLeft stageFits topFits stackSound openingSound piecesSound wholeSound sound sameBitCount sends holderCall rebuilderStart tallied effectStep openingStep wholeStep stepOf rebuilderCall
 demo = record { example = refl; house = refl; empty = refl; no-take-out = refl; collision = refl; anchor = refl; three-anchors = refl; at-ceiling = refl; past-ceiling = refl; started = refl; all-calls = refl }

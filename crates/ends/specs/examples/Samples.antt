@@ -24,12 +24,17 @@ use Rattle.ends.specs.declared.Rebuilder.{Rebuilder}
 use Rattle.ends.specs.declared.SheetChange.the-variants.{AddRow, OneRow}
 use Rattle.strings.specs.SettingLimits.{houseSettings, withinLimits}
 use Rattle.ends.specs.Anchors.{isqrt, place}
-use Rattle.ends.specs.Segments.{hashing, puttingIn, takingOut, anchors, dropped, waiting, settled, hashOf, laterStage, firstStage, begin, effect}
+use Rattle.ends.specs.Segments.{dropped, waiting, settled, hashOf, laterStage, firstStage, begin, effect, offset}
 use Rattle.ends.specs.Runs.{sizeOf, working, whole, judge, blank}
-use Rattle.ends.specs.States.{noPiece, laterNumber, firstNumber, nextNumber, anchorOffset, top, popped, restaged, retried, askFor, planned}
+use Rattle.ends.specs.States.{noPiece, top, popped, restaged, retried, planned}
 use Rattle.ends.specs.Soundness.{holderSound, isBlank, blankFrom, pieceFits, inOrder, rowsLeft, asksLeft, stageFits, stackSound, topFits, openingSound, piecesSound, wholeSound, sound}
 use Rattle.ends.specs.HolderCall.{Heard, declines, replies, freshHolder, sameBitCount, sends, holderCall}
 use Rattle.ends.specs.RebuilderCall.{Started, startDeclines, starts, rebuilderStart, Taken, refuses, takes, Rooms, clears, writes, stringAfter, sheetAfter, tallied, effectStep, stepOf, rebuilderCall, freshRebuilder}
+use Rattle.ends.specs.declared.Stage.{Stage}
+use Rattle.ends.specs.declared.Stage.the-variants.{Anchor, AllBits, Hashing, PuttingIn, TakingOut}
+use Rattle.ends.specs.declared.Attempt.the-variants.{First, Second, Third}
+use Rattle.ends.specs.declared.Phase.{Phase}
+use Rattle.ends.specs.declared.Phase.the-variants.{AtOpening, AtPieces, AtWhole}
 
 abbrev settings : (m h k key ceiling : ℕ) → Settings
 settings m h k key ceiling = record { m = m; h = h; k = k; key = key; ceiling = ceiling }
@@ -50,20 +55,31 @@ abbrev foundOfTwo : (k s q r : ℕ) → Option ℕ
 foundOfTwo k s q r = place 8 k 64 s (take q (blank r ++ (true ∷ false ∷ (anchor ++ blank q)))) anchor
 
 -- ---- states and lent rooms
-abbrev holder : (opened bits h key answers : ℕ) → Holder
+abbrev holder : (opened : Bool) (bits h key answers : ℕ) → Holder
 holder o b h k a = record { opened = o; bits = b; h = h; key = k; answers = a }
 
 -- one piece of 4 bits of X and 3 of Y in the stack
-abbrev state : (phase n answered counted rows stage waiting : ℕ) → Rebuilder
+abbrev state : Phase → (n answered counted rows : ℕ) → Stage → (waiting : ℕ) → Rebuilder
 state ph n a c r t w =
     record { settings = eight; ybits = 3; phase = ph; n = n; answered = a; counted = c; rows = r; stage = t; waiting = w; pieces = set (replicate 32 noPiece) 0 (record { x = 0; p = 4; y = 0; q = 3 }) }
 
 -- it waits at a stage, after the opening's answer
-abbrev atStage : ℕ → Rebuilder
-atStage t = state 1 4 1 0 0 t 1
+abbrev atStage : Stage → Rebuilder
+atStage t = state AtPieces 4 1 0 0 t 1
 
 abbrev finished : Rebuilder
-finished = popped (state 1 4 2 4 1 0 1)
+finished = popped (state AtPieces 4 2 4 1 Hashing 1)
+
+-- the offsets of the anchors that step 4 tries in a piece of p bits
+abbrev offsets : Settings → ℕ → Stage → List ℕ
+offsets S p Hashing = []
+offsets S p PuttingIn = []
+offsets S p TakingOut = []
+offsets S p (Anchor i) = offset (S .m) p First ∷ offset (S .m) p Second ∷ offset (S .m) p Third ∷ []
+offsets S p AllBits = []
+
+abbrev tried : Settings → (q p : ℕ) → List ℕ
+tried S q p = offsets S p (laterStage S p q)
 
 abbrev rooms : (string sheet question : ℕ) → Rooms
 rooms s sh q = record { string = s; sheet = sh; question = q }
@@ -121,26 +137,26 @@ pub record Samples : Type 0 where
   -- 2s + q - p below 0, here -8: r 0 is 8 away, which 2·4 admits, r 1 is 10 away
   pub below-0 : map (found 1 20 16) (0 ∷ 1 ∷ []) ≡ some 0 ∷ none ∷ []
   -- Step 4, p < 4(m + h): m = h = 8, p 63 goes as bits, p 64 gets anchors at 28, 36, 20; floor((p - m)/2)
-  pub small-p : map (λ (p : ℕ). laterStage eight p 66) (63 ∷ 64 ∷ 65 ∷ 66 ∷ []) ≡ anchors [] ∷ anchors (28 ∷ 36 ∷ 20 ∷ []) ∷ anchors (28 ∷ 36 ∷ 20 ∷ []) ∷ anchors (29 ∷ 37 ∷ 21 ∷ []) ∷ []
-  pub small-m-16 : map (λ (p : ℕ). laterStage (settings 16 8 1 1 100) p 99) (95 ∷ 96 ∷ []) ≡ anchors [] ∷ anchors (40 ∷ 56 ∷ 24 ∷ []) ∷ []
-  pub small-h-16 : map (λ (p : ℕ). laterStage (settings 8 16 1 1 100) p 99) (95 ∷ 96 ∷ []) ≡ anchors [] ∷ anchors (44 ∷ 52 ∷ 36 ∷ []) ∷ []
-  pub small-most : map (λ (p : ℕ). laterStage (settings 64 32 1 1 100) p 390) (383 ∷ 384 ∷ []) ≡ anchors [] ∷ anchors (160 ∷ 224 ∷ 96 ∷ []) ∷ []
+  pub small-p : map (tried eight 66) (63 ∷ 64 ∷ 65 ∷ 66 ∷ []) ≡ [] ∷ (28 ∷ 36 ∷ 20 ∷ []) ∷ (28 ∷ 36 ∷ 20 ∷ []) ∷ (29 ∷ 37 ∷ 21 ∷ []) ∷ []
+  pub small-m-16 : map (tried (settings 16 8 1 1 100) 99) (95 ∷ 96 ∷ []) ≡ [] ∷ (40 ∷ 56 ∷ 24 ∷ []) ∷ []
+  pub small-h-16 : map (tried (settings 8 16 1 1 100) 99) (95 ∷ 96 ∷ []) ≡ [] ∷ (44 ∷ 52 ∷ 36 ∷ []) ∷ []
+  pub small-most : map (tried (settings 64 32 1 1 100) 390) (383 ∷ 384 ∷ []) ≡ [] ∷ (160 ∷ 224 ∷ 96 ∷ []) ∷ []
   -- or q < m
-  pub small-q : map (laterStage eight 64) (7 ∷ 8 ∷ []) ≡ anchors [] ∷ anchors (28 ∷ 36 ∷ 20 ∷ []) ∷ []
+  pub small-q : map (laterStage eight 64) (7 ∷ 8 ∷ []) ≡ AllBits ∷ Anchor First ∷ []
   -- Steps 2 to 4: q = p, q = p - 1 or p + 1, otherwise
-  pub first-10 : map (firstStage eight 10) (8 ∷ 9 ∷ 10 ∷ 11 ∷ 12 ∷ []) ≡ anchors [] ∷ puttingIn ∷ hashing ∷ takingOut ∷ anchors [] ∷ []
-  pub first-100 : map (firstStage eight 100) (98 ∷ 99 ∷ 100 ∷ 101 ∷ 102 ∷ []) ≡ anchors (46 ∷ 54 ∷ 38 ∷ []) ∷ puttingIn ∷ hashing ∷ takingOut ∷ anchors (46 ∷ 54 ∷ 38 ∷ []) ∷ []
-  pub first-1 : map (firstStage eight 1) (0 ∷ 1 ∷ 2 ∷ 3 ∷ []) ≡ puttingIn ∷ hashing ∷ takingOut ∷ anchors [] ∷ []
-  pub first-2 : map (firstStage eight 2) (0 ∷ 1 ∷ []) ≡ anchors [] ∷ puttingIn ∷ []
+  pub first-10 : map (firstStage eight 10) (8 ∷ 9 ∷ 10 ∷ 11 ∷ 12 ∷ []) ≡ AllBits ∷ PuttingIn ∷ Hashing ∷ TakingOut ∷ AllBits ∷ []
+  pub first-100 : map (firstStage eight 100) (98 ∷ 99 ∷ 100 ∷ 101 ∷ 102 ∷ []) ≡ Anchor First ∷ PuttingIn ∷ Hashing ∷ TakingOut ∷ Anchor First ∷ []
+  pub first-1 : map (firstStage eight 1) (0 ∷ 1 ∷ 2 ∷ 3 ∷ []) ≡ PuttingIn ∷ Hashing ∷ TakingOut ∷ AllBits ∷ []
+  pub first-2 : map (firstStage eight 2) (0 ∷ 1 ∷ []) ≡ AllBits ∷ PuttingIn ∷ []
   -- Step 1: p = 0 is dropped, whatever q is
-  pub empty-piece : begin eight 0 [] ∷ begin eight 0 (true ∷ []) ∷ begin eight 1 (true ∷ []) ∷ [] ≡ dropped [] ∷ dropped (true ∷ []) ∷ waiting 1 (true ∷ []) hashing ∷ []
+  pub empty-piece : begin eight 0 [] ∷ begin eight 0 (true ∷ []) ∷ begin eight 1 (true ∷ []) ∷ [] ≡ dropped [] ∷ dropped (true ∷ []) ∷ waiting 1 (true ∷ []) Hashing ∷ []
   -- an answer's bytes join a count
   pub answer-bytes : map sizeOf (hashAnswer 127 ∷ hashAnswer 128 ∷ syndromeAnswer 3 0xab ∷ bitsAnswer (blank 8) ∷ bitsAnswer (blank 9) ∷ []) ≡ 2 ∷ 3 ∷ 4 ∷ 2 ∷ 3 ∷ []
   -- if this exceeds the ceiling, here 5, and pieces wait (p = 0 does not count), the next question is bits 0, n
-  pub ceiling : map (λ (c : ℕ). judge (settings 8 8 1 1 5) 4 c (waiting 4 [] (anchors []) ∷ []) []) (5 ∷ 6 ∷ []) ≡ working 4 5 (waiting 4 [] (anchors []) ∷ []) [] ∷ whole 4 6 (waiting 4 [] (anchors []) ∷ []) [] ∷ []
+  pub ceiling : map (λ (c : ℕ). judge (settings 8 8 1 1 5) 4 c (waiting 4 [] AllBits ∷ []) []) (5 ∷ 6 ∷ []) ≡ working 4 5 (waiting 4 [] AllBits ∷ []) [] ∷ whole 4 6 (waiting 4 [] AllBits ∷ []) [] ∷ []
   pub ceiling-settled : judge (settings 8 8 1 1 5) 4 6 (dropped [] ∷ settled ByBits [] (blank 4) ∷ []) [] ≡ working 4 6 (dropped [] ∷ settled ByBits [] (blank 4) ∷ []) []
-  -- the same by a state's phase, ceiling 100: 2 is bits 0, n
-  pub ceiling-phase : tallied (atStage 0) 100 0 .phase ∷ tallied (atStage 0) 101 0 .phase ∷ tallied (popped (atStage 0)) 101 0 .phase ∷ [] ≡ 1 ∷ 2 ∷ 1 ∷ []
+  -- the same by a state's phase, ceiling 100
+  pub ceiling-phase : tallied (atStage PuttingIn) 100 0 .phase ∷ tallied (atStage PuttingIn) 101 0 .phase ∷ tallied (popped (atStage PuttingIn)) 101 0 .phase ∷ [] ≡ AtPieces ∷ AtWhole ∷ AtPieces ∷ []
   -- the string buffer needs ceil(n/8) bytes, zeroed; later bytes keep what they had
   pub zeroed : map (λ (n : ℕ). stringAfter (0xff ∷ 0xff ∷ []) (clears n)) (0 ∷ 8 ∷ 9 ∷ []) ≡ (0xff ∷ 0xff ∷ []) ∷ (0x00 ∷ 0xff ∷ []) ∷ (0x00 ∷ 0x00 ∷ []) ∷ []
   pub written : stringAfter (0x00 ∷ 0x00 ∷ 0xff ∷ []) (writes 6 (true ∷ true ∷ true ∷ [])) ≡ 0x03 ∷ 0x80 ∷ 0xff ∷ []
@@ -154,19 +170,19 @@ pub record Samples : Type 0 where
   pub string-spare : startRefusal (0xff ∷ 0x80 ∷ []) 9 ∷ startRefusal (0xff ∷ 0x40 ∷ []) 9 ∷ [] ≡ 0 ∷ 2 ∷ []
   pub string-most : startRefusal (replicate 8192 0) 65536 ∷ startRefusal (replicate 8193 0) 65537 ∷ [] ≡ 0 ∷ 2 ∷ []
   -- Refusals of the holder's call: 2 before 3: the string rule, and the bit count of the opening
-  pub holder-string : heardNumber (holderCall (holder 2 4 8 1 1) (0xb8 ∷ []) 4 [] 0) ∷ holderRefusal (holder 1 5 8 1 1) 0 [] ∷ [] ≡ 2 ∷ 2 ∷ []
+  pub holder-string : heardNumber (holderCall (holder true 4 8 1 0) (0xb8 ∷ []) 4 [] 0) ∷ holderRefusal (holder true 5 8 1 1) 0 [] ∷ [] ≡ 2 ∷ 2 ∷ []
   -- 3 before the message, here empty: an unsound state; at most 1,000,000 answers
-  pub holder-state : map (λ (H : Holder). holderRefusal H 9 []) (holder 2 4 8 1 1 ∷ holder 0 0 0 0 1 ∷ holder 1 4 7 1 1 ∷ holder 1 4 33 1 1 ∷ holder 1 4 8 0 1 ∷ holder 1 4 8 1 1 ∷ []) ≡ 3 ∷ 3 ∷ 3 ∷ 3 ∷ 3 ∷ 4 ∷ []
-  pub holder-answers : map (λ (answers : ℕ). holderRefusal (holder 1 4 8 1 answers) 9 []) (0 ∷ 1 ∷ 999999 ∷ 1000000 ∷ 1000001 ∷ []) ≡ 3 ∷ 4 ∷ 4 ∷ 3 ∷ 3 ∷ []
-  pub last-answer : holderCall (holder 1 4 8 1 999999) (0xb0 ∷ []) 4 (0x01 ∷ 0x00 ∷ 0x04 ∷ []) 3 ≡ replies (holder 1 4 8 1 1000000) (0x01 ∷ 0xab ∷ 0x01 ∷ [])
+  pub holder-state : map (λ (H : Holder). holderRefusal H 9 []) (holder true 4 8 1 0 ∷ holder false 0 0 0 1 ∷ holder true 4 7 1 1 ∷ holder true 4 33 1 1 ∷ holder true 4 8 0 1 ∷ holder true 4 8 1 1 ∷ []) ≡ 3 ∷ 3 ∷ 3 ∷ 3 ∷ 3 ∷ 4 ∷ []
+  pub holder-answers : map (λ (answers : ℕ). holderRefusal (holder true 4 8 1 answers) 9 []) (0 ∷ 1 ∷ 999999 ∷ 1000000 ∷ 1000001 ∷ []) ≡ 3 ∷ 4 ∷ 4 ∷ 3 ∷ 3 ∷ []
+  pub last-answer : holderCall (holder true 4 8 1 999999) (0xb0 ∷ []) 4 (0x01 ∷ 0x00 ∷ 0x04 ∷ []) 3 ≡ replies (holder true 4 8 1 1000000) (0x01 ∷ 0xab ∷ 0x01 ∷ [])
   -- the kind: 4, 5, 6 as met; then 3 for a known kind out of turn, before its fields
   pub kind-unopened : map (holderRefusal freshHolder 9) ([] ∷ (0x80 ∷ []) ∷ (0x80 ∷ 0x00 ∷ []) ∷ (0x04 ∷ []) ∷ (0x01 ∷ []) ∷ (0x02 ∷ []) ∷ (0x03 ∷ []) ∷ []) ≡ 4 ∷ 4 ∷ 5 ∷ 6 ∷ 3 ∷ 3 ∷ 3 ∷ []
-  pub kind-opened : map (holderRefusal (holder 1 4 8 1 1) 9) ((0x04 ∷ []) ∷ (0x00 ∷ []) ∷ []) ≡ 6 ∷ 3 ∷ []
+  pub kind-opened : map (holderRefusal (holder true 4 8 1 1) 9) ((0x04 ∷ []) ∷ (0x00 ∷ []) ∷ []) ≡ 6 ∷ 3 ∷ []
   -- the fields: 4 and 5 as met; then 7, 8, 9: a reply needs its own length
-  pub fields : map (holderRefusal (holder 1 4 8 1 1) 9) ((0x01 ∷ 0x00 ∷ []) ∷ (0x01 ∷ 0x80 ∷ 0x00 ∷ []) ∷ (0x01 ∷ 0xff ∷ 0xff ∷ 0xff ∷ 0xff ∷ 0x10 ∷ []) ∷ (0x01 ∷ 0xff ∷ 0xff ∷ 0xff ∷ 0xff ∷ 0x0f ∷ 0x01 ∷ []) ∷ (0x01 ∷ 0x00 ∷ 0x05 ∷ 0x00 ∷ []) ∷ []) ≡ 4 ∷ 5 ∷ 5 ∷ 8 ∷ 7 ∷ []
-  pub reply-room : holderRefusal (holder 1 4 8 1 1) 0 (0x01 ∷ 0x00 ∷ 0x05 ∷ []) ∷ holderRefusal (holder 1 4 8 1 1) 2 (0x01 ∷ 0x00 ∷ 0x04 ∷ []) ∷ holderRefusal (holder 1 4 8 1 1) 3 (0x01 ∷ 0x00 ∷ 0x04 ∷ []) ∷ [] ≡ 8 ∷ 9 ∷ 0 ∷ []
+  pub fields : map (holderRefusal (holder true 4 8 1 1) 9) ((0x01 ∷ 0x00 ∷ []) ∷ (0x01 ∷ 0x80 ∷ 0x00 ∷ []) ∷ (0x01 ∷ 0xff ∷ 0xff ∷ 0xff ∷ 0xff ∷ 0x10 ∷ []) ∷ (0x01 ∷ 0xff ∷ 0xff ∷ 0xff ∷ 0xff ∷ 0x0f ∷ 0x01 ∷ []) ∷ (0x01 ∷ 0x00 ∷ 0x05 ∷ 0x00 ∷ []) ∷ []) ≡ 4 ∷ 5 ∷ 5 ∷ 8 ∷ 7 ∷ []
+  pub reply-room : holderRefusal (holder true 4 8 1 1) 0 (0x01 ∷ 0x00 ∷ 0x05 ∷ []) ∷ holderRefusal (holder true 4 8 1 1) 2 (0x01 ∷ 0x00 ∷ 0x04 ∷ []) ∷ holderRefusal (holder true 4 8 1 1) 3 (0x01 ∷ 0x00 ∷ 0x04 ∷ []) ∷ [] ≡ 8 ∷ 9 ∷ 0 ∷ []
   -- a range has length 1 or more and ends by n, here 4
-  pub ranges : map (holderRefusal (holder 1 4 8 1 1) 9) ((0x01 ∷ 0x00 ∷ 0x00 ∷ []) ∷ (0x01 ∷ 0x00 ∷ 0x01 ∷ []) ∷ (0x01 ∷ 0x00 ∷ 0x04 ∷ []) ∷ (0x01 ∷ 0x00 ∷ 0x05 ∷ []) ∷ (0x01 ∷ 0x03 ∷ 0x01 ∷ []) ∷ (0x01 ∷ 0x04 ∷ 0x01 ∷ []) ∷ (0x02 ∷ 0x03 ∷ 0x02 ∷ []) ∷ (0x03 ∷ 0x03 ∷ 0x02 ∷ []) ∷ []) ≡ 8 ∷ 0 ∷ 0 ∷ 8 ∷ 0 ∷ 8 ∷ 8 ∷ 8 ∷ []
+  pub ranges : map (holderRefusal (holder true 4 8 1 1) 9) ((0x01 ∷ 0x00 ∷ 0x00 ∷ []) ∷ (0x01 ∷ 0x00 ∷ 0x01 ∷ []) ∷ (0x01 ∷ 0x00 ∷ 0x04 ∷ []) ∷ (0x01 ∷ 0x00 ∷ 0x05 ∷ []) ∷ (0x01 ∷ 0x03 ∷ 0x01 ∷ []) ∷ (0x01 ∷ 0x04 ∷ 0x01 ∷ []) ∷ (0x02 ∷ 0x03 ∷ 0x02 ∷ []) ∷ (0x03 ∷ 0x03 ∷ 0x02 ∷ []) ∷ []) ≡ 8 ∷ 0 ∷ 0 ∷ 8 ∷ 0 ∷ 8 ∷ 8 ∷ 8 ∷ []
   -- an opening: version 1, h and key in the settings' limits; 7 before 8; its reply has 2 bytes
   pub opening-version : map (λ (version : ℕ). holderRefusal freshHolder 9 (0x00 ∷ version ∷ 0x08 ∷ 0x01 ∷ [])) (0 ∷ 1 ∷ 2 ∷ []) ≡ 8 ∷ 0 ∷ 8 ∷ []
   pub opening-h : map (λ (h : ℕ). holderRefusal freshHolder 9 (0x00 ∷ 0x01 ∷ h ∷ 0x01 ∷ [])) (7 ∷ 8 ∷ 32 ∷ 33 ∷ []) ≡ 8 ∷ 0 ∷ 0 ∷ 8 ∷ []
@@ -174,7 +190,7 @@ pub record Samples : Type 0 where
   pub opening-room : holderRefusal freshHolder 9 (0x00 ∷ 0x02 ∷ 0x08 ∷ 0x01 ∷ 0x00 ∷ []) ∷ map (λ (room : ℕ). holderRefusal freshHolder room (0x00 ∷ 0x01 ∷ 0x08 ∷ 0x01 ∷ [])) (1 ∷ 2 ∷ []) ≡ 7 ∷ 9 ∷ 0 ∷ []
   -- Refusals of the rebuilder's call: 2 before 3; 3 before the message: finished, or unsound
   pub call-string : map takenNumber (rebuilderCall finished (0xb0 ∷ []) 3 [] (rooms 0 0 0) ∷ rebuilderCall finished (0xa0 ∷ []) 4 [] (rooms 0 0 0) ∷ []) ≡ 2 ∷ 2 ∷ []
-  pub call-state : map (λ (st : Rebuilder). rebuilderRefusal st (rooms 0 0 0) []) (finished ∷ atStage 0 ∷ atStage 1 ∷ atStage 5 ∷ []) ≡ 3 ∷ 4 ∷ 3 ∷ 3 ∷ []
+  pub call-state : map (λ (st : Rebuilder). rebuilderRefusal st (rooms 0 0 0) []) (finished ∷ atStage PuttingIn ∷ atStage (Anchor First) ∷ atStage Hashing ∷ []) ≡ 3 ∷ 4 ∷ 3 ∷ 3 ∷ []
   -- 4, 5, 6 as met, 6 for another kind than the one awaited; then 7, 8, 9
   pub call-order : map (rebuilderRefusal (freshRebuilder eight 3) (rooms 0 0 0)) ([] ∷ (0x01 ∷ []) ∷ (0x04 ∷ []) ∷ (0x00 ∷ []) ∷ (0x00 ∷ 0x80 ∷ []) ∷ (0x00 ∷ 0x80 ∷ 0x00 ∷ []) ∷ (0x00 ∷ 0x81 ∷ 0x80 ∷ 0x04 ∷ 0x00 ∷ []) ∷ (0x00 ∷ 0x81 ∷ 0x80 ∷ 0x04 ∷ []) ∷ (0x00 ∷ 0x04 ∷ []) ∷ []) ≡ 4 ∷ 6 ∷ 6 ∷ 4 ∷ 4 ∷ 5 ∷ 7 ∷ 8 ∷ 9 ∷ []
   -- n up to 65,536; ceil(n/8) bytes, 2·floor(n/m) + 1 rows, and 8 bytes for the question, even the last
@@ -183,24 +199,24 @@ pub record Samples : Type 0 where
   pub rooms-7 : map (λ (r : Rooms). rebuilderRefusal (freshRebuilder eight 3) r (0x00 ∷ 0x07 ∷ [])) (rooms 0 1 8 ∷ rooms 1 1 8 ∷ []) ≡ 9 ∷ 0 ∷ []
   pub rooms-8 : map (λ (r : Rooms). rebuilderRefusal (freshRebuilder eight 3) r (0x00 ∷ 0x08 ∷ [])) (rooms 0 3 8 ∷ rooms 1 2 8 ∷ rooms 1 3 7 ∷ rooms 1 3 8 ∷ []) ≡ 9 ∷ 9 ∷ 9 ∷ 0 ∷ []
   pub rooms-9 : map (λ (r : Rooms). rebuilderRefusal (freshRebuilder eight 3) r (0x00 ∷ 0x09 ∷ [])) (rooms 1 3 8 ∷ rooms 2 3 8 ∷ []) ≡ 9 ∷ 0 ∷ []
-  pub rooms-last : map (λ (question : ℕ). rebuilderRefusal (atStage 0) (rooms 1 1 question) (0x02 ∷ 0x03 ∷ 0xab ∷ 0x01 ∷ [])) (7 ∷ 8 ∷ []) ≡ 9 ∷ 0 ∷ []
+  pub rooms-last : map (λ (question : ℕ). rebuilderRefusal (atStage PuttingIn) (rooms 1 1 question) (0x02 ∷ 0x03 ∷ 0xab ∷ 0x01 ∷ [])) (7 ∷ 8 ∷ []) ≡ 9 ∷ 0 ∷ []
   -- a syndrome up to the length, here 4; a hash below 2^h, here 256; then an answer cut short, one with a byte behind it, one of another kind
-  pub syndrome-answers : map (rebuilderRefusal (atStage 0) (rooms 1 1 8)) ((0x02 ∷ 0x04 ∷ 0x00 ∷ []) ∷ (0x02 ∷ 0x05 ∷ 0x00 ∷ []) ∷ (0x02 ∷ 0x00 ∷ 0xff ∷ 0x01 ∷ []) ∷ (0x02 ∷ 0x00 ∷ 0x80 ∷ 0x02 ∷ []) ∷ (0x02 ∷ 0x03 ∷ []) ∷ (0x02 ∷ 0x03 ∷ 0xab ∷ 0x01 ∷ 0x00 ∷ []) ∷ (0x01 ∷ 0x03 ∷ []) ∷ []) ≡ 0 ∷ 8 ∷ 0 ∷ 8 ∷ 4 ∷ 7 ∷ 6 ∷ []
+  pub syndrome-answers : map (rebuilderRefusal (atStage PuttingIn) (rooms 1 1 8)) ((0x02 ∷ 0x04 ∷ 0x00 ∷ []) ∷ (0x02 ∷ 0x05 ∷ 0x00 ∷ []) ∷ (0x02 ∷ 0x00 ∷ 0xff ∷ 0x01 ∷ []) ∷ (0x02 ∷ 0x00 ∷ 0x80 ∷ 0x02 ∷ []) ∷ (0x02 ∷ 0x03 ∷ []) ∷ (0x02 ∷ 0x03 ∷ 0xab ∷ 0x01 ∷ 0x00 ∷ []) ∷ (0x01 ∷ 0x03 ∷ []) ∷ []) ≡ 0 ∷ 8 ∷ 0 ∷ 8 ∷ 4 ∷ 7 ∷ 6 ∷ []
   -- bits packed as a string: here 4 in 1 byte, spare bits zero
-  pub bits-answers : map (rebuilderRefusal (atStage 4) (rooms 1 1 8)) ((0x03 ∷ []) ∷ (0x03 ∷ 0xb0 ∷ []) ∷ (0x03 ∷ 0xb8 ∷ []) ∷ (0x03 ∷ 0xb8 ∷ 0x00 ∷ []) ∷ []) ≡ 4 ∷ 0 ∷ 8 ∷ 7 ∷ []
+  pub bits-answers : map (rebuilderRefusal (atStage AllBits) (rooms 1 1 8)) ((0x03 ∷ []) ∷ (0x03 ∷ 0xb0 ∷ []) ∷ (0x03 ∷ 0xb8 ∷ []) ∷ (0x03 ∷ 0xb8 ∷ 0x00 ∷ []) ∷ []) ≡ 4 ∷ 0 ∷ 8 ∷ 7 ∷ []
   -- a trial is left in the string only if its hash agrees; else the whole piece is asked for
-  pub trial : map (λ (v : ℕ). stringAfter (0x00 ∷ []) (stepOf (atStage 0) (0xa0 ∷ []) 4 (syndromeAnswer 3 v) .string)) (0xab ∷ 0xaa ∷ []) ≡ (0xb0 ∷ []) ∷ (0x00 ∷ []) ∷ []
-  pub trial-next : map (λ (v : ℕ). planned (stepOf (atStage 0) (0xa0 ∷ []) 4 (syndromeAnswer 3 v) .state)) (0xab ∷ 0xaa ∷ []) ≡ none ∷ some (AskBits 0 4) ∷ []
-  -- the state is unsound: a field, waiting piece or count beyond what a run can hold; here `atStage 0` with one of them at or past its edge
-  pub sound-phase : map (λ (phase : ℕ). sound (state phase 4 1 0 0 0 1)) (0 ∷ 1 ∷ 3 ∷ []) ≡ false ∷ true ∷ false ∷ []
-  pub sound-n : map (λ (n : ℕ). sound (state 1 n 1 0 0 0 1)) (3 ∷ 4 ∷ []) ≡ false ∷ true ∷ []
-  pub sound-answered : map (λ (answered : ℕ). sound (state 1 4 answered 0 0 0 1)) (0 ∷ 1 ∷ 2 ∷ []) ≡ false ∷ true ∷ false ∷ []
-  pub sound-counted : map (λ (counted : ℕ). sound (state 1 4 1 counted 0 0 1)) (100 ∷ 101 ∷ []) ≡ true ∷ false ∷ []
-  pub sound-rows : map (λ (rows : ℕ). sound (state 1 4 1 0 rows 0 1)) (0 ∷ 1 ∷ []) ≡ true ∷ false ∷ []
-  pub sound-stage : map (λ (stage : ℕ). sound (state 1 4 2 0 0 stage 1)) (1 ∷ 4 ∷ 5 ∷ []) ≡ false ∷ true ∷ false ∷ []
-  pub sound-waiting : map (λ (waiting : ℕ). sound (state 1 4 1 0 0 0 waiting)) (0 ∷ 1 ∷ 2 ∷ 33 ∷ []) ≡ false ∷ true ∷ false ∷ false ∷ []
-  pub sound-whole : map (λ (counted : ℕ). sound (state 2 4 1 counted 0 0 1)) (100 ∷ 101 ∷ 109 ∷ 110 ∷ []) ≡ false ∷ true ∷ true ∷ false ∷ []
+  pub trial : map (λ (v : ℕ). stringAfter (0x00 ∷ []) (stepOf (atStage PuttingIn) (0xa0 ∷ []) 4 (syndromeAnswer 3 v) .string)) (0xab ∷ 0xaa ∷ []) ≡ (0xb0 ∷ []) ∷ (0x00 ∷ []) ∷ []
+  pub trial-next : map (λ (v : ℕ). planned (stepOf (atStage PuttingIn) (0xa0 ∷ []) 4 (syndromeAnswer 3 v) .state)) (0xab ∷ 0xaa ∷ []) ≡ none ∷ some (AskBits 0 4) ∷ []
+  -- the state is unsound: a field, waiting piece or count beyond what a run can hold; here `atStage PuttingIn` with one of them at or past its edge
+  pub sound-phase : map (λ (phase : Phase). sound (state phase 4 1 0 0 PuttingIn 1)) (AtOpening ∷ AtPieces ∷ AtWhole ∷ []) ≡ false ∷ true ∷ false ∷ []
+  pub sound-n : map (λ (n : ℕ). sound (state AtPieces n 1 0 0 PuttingIn 1)) (3 ∷ 4 ∷ []) ≡ false ∷ true ∷ []
+  pub sound-answered : map (λ (answered : ℕ). sound (state AtPieces 4 answered 0 0 PuttingIn 1)) (0 ∷ 1 ∷ 2 ∷ []) ≡ false ∷ true ∷ false ∷ []
+  pub sound-counted : map (λ (counted : ℕ). sound (state AtPieces 4 1 counted 0 PuttingIn 1)) (100 ∷ 101 ∷ []) ≡ true ∷ false ∷ []
+  pub sound-rows : map (λ (rows : ℕ). sound (state AtPieces 4 1 0 rows PuttingIn 1)) (0 ∷ 1 ∷ []) ≡ true ∷ false ∷ []
+  pub sound-stage : map (λ (stage : Stage). sound (state AtPieces 4 2 0 0 stage 1)) (Anchor First ∷ AllBits ∷ Hashing ∷ []) ≡ false ∷ true ∷ false ∷ []
+  pub sound-waiting : map (λ (waiting : ℕ). sound (state AtPieces 4 1 0 0 PuttingIn waiting)) (0 ∷ 1 ∷ 2 ∷ 33 ∷ []) ≡ false ∷ true ∷ false ∷ false ∷ []
+  pub sound-whole : map (λ (counted : ℕ). sound (state AtWhole 4 1 counted 0 PuttingIn 1)) (100 ∷ 101 ∷ 109 ∷ 110 ∷ []) ≡ false ∷ true ∷ true ∷ false ∷ []
 
 pub samples : Samples
-unfolding bitAt range flipped setBit writeBits pack cleared sameBits noneSet stringRule syndrome insertions withSyndrome putIn xorLeft xorRight step hashFrom hash groups number nextByte numberAt kindAt openingAt rangeAt fieldsAt answerBytes sizeAt syndromeAt bitsAt answerFields readAnswer withinLimits isqrt place hashOf laterStage firstStage begin effect sizeOf judge laterNumber firstNumber nextNumber anchorOffset top popped restaged retried askFor planned holderSound isBlank blankFrom pieceFits inOrder rowsLeft asksLeft stageFits topFits stackSound openingSound piecesSound wholeSound sound sameBitCount sends holderCall rebuilderStart tallied effectStep stepOf rebuilderCall
+unfolding bitAt range flipped setBit writeBits pack cleared sameBits noneSet stringRule syndrome insertions withSyndrome putIn xorLeft xorRight step hashFrom hash groups number nextByte numberAt kindAt openingAt rangeAt fieldsAt answerBytes sizeAt syndromeAt bitsAt answerFields readAnswer withinLimits isqrt place hashOf laterStage firstStage begin effect sizeOf judge top popped restaged retried planned holderSound isBlank blankFrom pieceFits inOrder rowsLeft asksLeft stageFits topFits stackSound openingSound piecesSound wholeSound sound sameBitCount sends holderCall rebuilderStart tallied effectStep stepOf rebuilderCall
 samples = record { limit-m = refl; limit-h = refl; limit-k = refl; limit-key = refl; limit-ceiling = refl; house = refl; roots = refl; window = refl; tie = refl; window-67 = refl; window-65 = refl; tie-67 = refl; window-63 = refl; window-k-2 = refl; last-place = refl; below-0 = refl; small-p = refl; small-m-16 = refl; small-h-16 = refl; small-most = refl; small-q = refl; first-10 = refl; first-100 = refl; first-1 = refl; first-2 = refl; empty-piece = refl; answer-bytes = refl; ceiling = refl; ceiling-settled = refl; ceiling-phase = refl; zeroed = refl; written = refl; sheet-add = refl; sheet-one = refl; start-order = refl; string-bytes = refl; string-spare = refl; string-most = refl; holder-string = refl; holder-state = refl; holder-answers = refl; last-answer = refl; kind-unopened = refl; kind-opened = refl; fields = refl; reply-room = refl; ranges = refl; opening-version = refl; opening-h = refl; opening-key = refl; opening-room = refl; call-string = refl; call-state = refl; call-order = refl; rooms-most = refl; rooms-0 = refl; rooms-7 = refl; rooms-8 = refl; rooms-9 = refl; rooms-last = refl; syndrome-answers = refl; bits-answers = refl; trial = refl; trial-next = refl; sound-phase = refl; sound-n = refl; sound-answered = refl; sound-counted = refl; sound-rows = refl; sound-stage = refl; sound-waiting = refl; sound-whole = refl }

@@ -20,7 +20,7 @@ use Rattle.messages.specs.declared.QuestionRead.the-variants.{Asked}
 use Rattle.ends.specs.laws.Asking.{asks-planned, hears-value}
 use Rattle.ends.specs.laws.Delivery.{NotOpen, NotOpening, StartedIs, advanced, inside-range, later-not-open, length-most, sheet-length-after, started-is, step-answered, string-length-after}
 use Rattle.ends.specs.HolderCall.{Heard, afterAnswer, declines, freshHolder, holderCall, inTurn, replies, sameBitCount, sends}
-use Rattle.ends.specs.laws.HolderLaws.{Made, OpenedIs, counts, fresh-holder-sound, heard-call, heard-made, holder-sound, opened-sound, opens}
+use Rattle.ends.specs.laws.HolderLaws.{Made, OpenedIs, counts, fresh-holder-sound, heard-call, heard-made, holder-sound, opened-sound, opens, same-count}
 use Rattle.ends.specs.laws.Invariant.{Truth, proper-now, question-inside, run-ok, sizeOfRun}
 use Rattle.ends.specs.laws.Kept.{bytesOf, count-is, kept}
 use Rattle.ends.specs.Claims.{rowsAtFront, zeroed, zeroedNext}
@@ -262,7 +262,7 @@ module _ (c : Lent) (r₀ : Rebuilder) (q₀ : List ℕ) (bs₀ : List ℕ) (sh�
       let d : e .0 ≡ AskOpen (H .h) (H .key) = cc in
       earlier-open l (H .h) (H .key) (rw d at (e .1))
 
-  turn-true : (q : Question) → NotOpen q → inTurn 1 (questionKind q) ≡ true
+  turn-true : (q : Question) → NotOpen q → inTurn true (questionKind q) ≡ true
   turn-true (AskOpen h key) n = absurd n
   turn-true (AskHash x p) n = refl
   turn-true (AskSyndrome x p) n = refl
@@ -298,10 +298,9 @@ module _ (c : Lent) (r₀ : Rebuilder) (q₀ : List ℕ) (bs₀ : List ℕ) (sh�
       let t : inTurn (H .opened) (questionKind q) ≡ true = rw (p .opened) (turn-true q no) in
       let rf = question-fields-read q (c .xbits) x-few r in
       let ans : answer (H .h) (H .key) X q ≡ told S X q = ap₂ (λ (i j : ℕ). answer i j X q) (hk .0) (hk .1) in
-      let bt′ = eq-eqb (H .bits) (c .xbits) bt in
-      let op = p .opened in (
+      let sc = same-count H (c .xbits) bt in (
         afterAnswer H (c .xbits) q,
-        rw (sup .reference, op, bt′, opened-sound H p, lt-ltb (H .answers) mostAnswers (omega arith), question-kind-reads q) (rw (t, rf, ans) (sends-it H (b ∷ l) q h k (afterAnswer H (c .xbits) q))),
+        rw (sup .reference, sc, opened-sound H p, lt-ltb (H .answers) mostAnswers (omega arith), question-kind-reads q) (rw (t, rf, ans) (sends-it H (b ∷ l) q h k (afterAnswer H (c .xbits) q))),
       )
 
   -- ---- every list of calls

@@ -17,17 +17,18 @@ use Rattle.strings.specs.SettingLimits.{Limits}
 use Rattle.ends.specs.laws.Right.{Fit, StageOk, offset-fits}
 use Rattle.ends.specs.Runs.{copies, copyOf}
 use Rattle.ends.specs.laws.SegmentLaws.{Chain}
-use Rattle.ends.specs.Segments.{Effect, Segment, Stage, begin, dropped, effect, firstStage, hashOf, laterStage, made, placed, retry, rowsOf, settled, settles, splits, stays, step, theBits, theHash, theSyndrome, tooSmall, trial, trialOf, waiting, offset, afterAnchor}
+use Rattle.ends.specs.Segments.{Effect, Segment, begin, dropped, effect, firstStage, hashOf, laterStage, made, placed, retry, rowsOf, settled, settles, splits, stays, step, theBits, theHash, theSyndrome, tooSmall, trial, trialOf, waiting, offset, afterAnchor}
 use Rattle.ends.specs.laws.Shape.{Shape}
 use Rattle.ends.specs.declared.How.{How}
 use Rattle.ends.specs.declared.How.the-variants.{ByAnchor, ByHash, ByPutIn, ByTakeOut}
 use Rattle.strings.specs.declared.settings.Settings.{Settings}
 use Rattle.strings.specs.laws.Tests.{by-test}
 use Rattle.ends.specs.Claims.{isWait, total}
-use Rattle.ends.specs.Soundness.{bound}
+use Rattle.ends.specs.Soundness.{bound, asksBefore}
 use Rattle.ends.specs.declared.Stage.the-variants.{Hashing, PuttingIn, TakingOut, Anchor, AllBits}
 use Rattle.ends.specs.declared.Attempt.{Attempt}
-use Rattle.ends.specs.declared.Attempt.the-variants.{First, Second, Third, asksBefore}
+use Rattle.ends.specs.declared.Attempt.the-variants.{First, Second, Third}
+use Rattle.ends.specs.declared.Stage.{Stage}
 
 -- two parts and an anchor between them
 pub split-div : (m a b p : ℕ) → 0 < m → a + (m + b) ≡ p → a / m + b / m + 1 ≤ p / m

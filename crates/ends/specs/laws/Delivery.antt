@@ -18,7 +18,7 @@ use Rattle.strings.specs.SettingLimits.{Limits, withinLimits}
 use Rattle.ends.specs.laws.Moves.{effectState, moved-effect, moved-opening}
 use Rattle.ends.specs.RebuilderCall.{Started, StringChange, clears, effectStep, freshRebuilder, keeps, noRow, openingStep, questionLength, rebuilderStart, sheetAfter, starts, stepOf, stringAfter, tallied, unlessStarted, wholeStep, writes}
 use Rattle.ends.specs.Runs.{Run, advance, judge, opening, question, sizeOf, string, whole, working}
-use Rattle.ends.specs.Segments.{Effect, Segment, Stage, ask, asks, dropped, effect, newRows, settled, settles, splits, stays, step, theBits, theSize, waiting, waits}
+use Rattle.ends.specs.Segments.{Effect, Segment, ask, asks, dropped, effect, newRows, settled, settles, splits, stays, step, theBits, theSize, waiting, waits}
 use Rattle.ends.specs.laws.Shape.{Inside}
 use Rattle.strings.specs.laws.SettingLaws.{limits-is}
 use Rattle.ends.specs.laws.SoundParts.{PhaseOf, isOpening, isPieces, isWhole, phase-of, sound-is, top-is}
@@ -38,6 +38,7 @@ use Rattle.strings.specs.laws.WriteLaws.{length-writeBits}
 use Rattle.strings.specs.declared.Refusal.{Refusal}
 use Rattle.strings.specs.declared.Refusal.the-variants.{BadSetting, BadString, BufferTooShort}
 use Rattle.ends.specs.declared.Stage.the-variants.{Hashing, PuttingIn, TakingOut, Anchor, AllBits}
+use Rattle.ends.specs.declared.Stage.{Stage}
 
 -- ---- questions
 abbrev pub NotOpen : Question → Type 0

@@ -1,13 +1,13 @@
 -- What an answered call of the holder shows, and that every state from it is sound.
 use mathlib.Core.Path.{_≡_, refl, sym, _∙_}
-use mathlib.Core.Bool.{Bool, true, false, _&&_}
+use mathlib.Core.Bool.{Bool, true, false, not, _&&_, _||_}
 use mathlib.Core.Logic.{_⊎_, inl, inr}
 use mathlib.Core.List.{List}
 use Prim.Native.Nat.{ℕ, _+_, _≤_, _<_}
 use native.Mathlib.Omega.{arith}
 use lib.ListN.{length}
-use lib.Dec.{leb, ltb}
-use borrow.Author.Tests.{ltb-true, leb-true, le-leb, not-true}
+use lib.Dec.{leb, ltb, eqb}
+use borrow.Author.Tests.{ltb-true, leb-true, le-leb, not-true, eq-eqb}
 use Rattle.messages.specs.laws.QuestionLaws.{Within, OpeningWithin, fields-within}
 use Rattle.messages.specs.Answers.{answerBytes}
 use Rattle.messages.specs.Kinds.{kindAt}
@@ -155,3 +155,12 @@ holder-sound st x bits msg room next reply e =
 pub fresh-holder-sound : holderSound freshHolder ≡ true
 unfolding holderSound
 fresh-holder-sound = refl
+
+-- a string of the opening's bit count is taken
+pub same-count : (st : Holder) (bits : ℕ) → st .bits ≡ bits → sameBitCount st bits ≡ true
+unfolding sameBitCount
+same-count st bits e = go (st .opened)
+  where
+    go : (o : Bool) → (not o || eqb (st .bits) bits) ≡ true
+    go true = eq-eqb (st .bits) bits e
+    go false = refl

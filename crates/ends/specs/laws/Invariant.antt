@@ -23,13 +23,14 @@ use Rattle.strings.specs.SettingLimits.{Limits}
 use Rattle.ends.specs.laws.Right.{Good, begin-ok, begin-span, one, part-length, settled-right, work-ok}
 use Rattle.ends.specs.Runs.{Honest, Run, advance, copies, copyOf, judge, opening, question, run, sizeOf, told, whole, working, full}
 use Rattle.ends.specs.laws.SegmentLaws.{Chain, ask-waits, chain-end, found, rowSum-append, step-chain, step-copies, step-falls, step-rows}
-use Rattle.ends.specs.Segments.{Segment, Stage, ask, asks, begin, dropped, effect, hashOf, newRows, rowsOf, settled, step, theSize, waiting, waits, work}
+use Rattle.ends.specs.Segments.{Segment, ask, asks, begin, dropped, effect, hashOf, newRows, rowsOf, settled, step, theSize, waiting, waits, work}
 use Rattle.ends.specs.laws.Shape.{Inside, Proper, Shape, asks-inside, begin-shape, proper-bits, proper-full, proper-size, sizes, work-shape}
 use Rattle.ends.specs.declared.How.the-variants.{ByBits}
 use Rattle.ends.specs.declared.Row.{Row}
 use Rattle.strings.specs.declared.settings.Settings.{Settings}
 use Rattle.strings.specs.laws.Tests.{by-test, true-false}
 use Rattle.strings.specs.Bits.{maxBits}
+use Rattle.ends.specs.declared.Stage.{Stage}
 
 -- how many bits the reference has, as far as the run knows
 abbrev pub sizeOfRun : Run → ℕ

@@ -19,13 +19,14 @@ use Rattle.ends.specs.Claims.{At, total}
 use Rattle.strings.specs.SettingLimits.{Limits}
 use Rattle.ends.specs.Runs.{Honest, Run, advance, judge, opening, piecesOf, question, run, sizeOf, string, told, whole, working}
 use Rattle.ends.specs.laws.SegmentLaws.{Chain, chain-end}
-use Rattle.ends.specs.Segments.{Segment, Stage, ask, asks, dropped, newRows, settled, span, step, waiting, waits, work}
+use Rattle.ends.specs.Segments.{Segment, ask, asks, dropped, newRows, settled, span, step, waiting, waits, work}
 use Rattle.ends.specs.laws.Shape.{Shape}
 use Rattle.ends.specs.declared.How.{How}
 use Rattle.ends.specs.declared.Row.{Row}
 use Rattle.strings.specs.declared.settings.Settings.{Settings}
 use Rattle.strings.specs.laws.Tests.{by-test}
 use Rattle.strings.specs.Bits.{maxBits}
+use Rattle.ends.specs.declared.Stage.{Stage}
 
 at-right : (x : ℕ) (l r : List Segment) (y : ℕ) (s : Segment) → At (x + total span l) r y s → At x (l ++ r) y s
 at-right x [] r y s h = rw (add-zero x) at h

@@ -15,7 +15,7 @@ use Rattle.ends.specs.Anchors.{part, place}
 use Rattle.strings.specs.SettingLimits.{Limits}
 use Rattle.ends.specs.Runs.{told}
 use Rattle.ends.specs.laws.SegmentLaws.{Chain}
-use Rattle.ends.specs.Segments.{Effect, Segment, Stage, asks, begin, dropped, effect, firstStage, hashOf, laterStage, made, placed, retry, settled, span, tooSmall, trial, trialOf, waiting, work, afterAnchor}
+use Rattle.ends.specs.Segments.{Effect, Segment, asks, begin, dropped, effect, firstStage, hashOf, laterStage, made, placed, retry, settled, span, tooSmall, trial, trialOf, waiting, work, afterAnchor, offset}
 use Rattle.ends.specs.declared.How.{How}
 use Rattle.ends.specs.declared.How.the-variants.{ByAnchor, ByBits, ByHash, ByPutIn, ByTakeOut}
 use Rattle.strings.specs.declared.settings.Settings.{Settings}
@@ -24,6 +24,7 @@ use Rattle.ends.specs.Claims.{Agrees, Near, Settled, oneAdded, oneLost, 
 use Rattle.ends.specs.declared.Stage.the-variants.{Hashing, PuttingIn, TakingOut, Anchor, AllBits}
 use Rattle.ends.specs.declared.Attempt.{Attempt}
 use Rattle.ends.specs.declared.Attempt.the-variants.{First, Second, Third}
+use Rattle.ends.specs.declared.Stage.{Stage}
 
 -- a right piece, whatever its copy
 pub settled-right : (S : Settings) (x : List Bool) (w : How) (ys b : List Bool) → Agrees S w x b → b ≡ x → Settled S x w ys b

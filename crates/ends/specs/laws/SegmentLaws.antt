@@ -10,10 +10,11 @@ use lib.ListN.{length}
 use Rattle.messages.specs.Answers.{Answer}
 use Rattle.messages.specs.declared.Question.{Question}
 use Rattle.ends.specs.Runs.{copies, copyOf}
-use Rattle.ends.specs.Segments.{Segment, Stage, ask, asks, dropped, newRows, row, rowsOf, settled, span, step, waiting, waits, work}
+use Rattle.ends.specs.Segments.{Segment, ask, asks, dropped, newRows, row, rowsOf, settled, span, step, waiting, waits, work}
 use Rattle.ends.specs.declared.Row.{Row}
 use Rattle.strings.specs.declared.settings.Settings.{Settings}
 use Rattle.ends.specs.Claims.{rowSum, total}
+use Rattle.ends.specs.declared.Stage.{Stage}
 
 -- ---- sums
 pub total-append : (f : Segment → ℕ) (l r : List Segment) → total f (l ++ r) ≡ total f l + total f r

@@ -21,13 +21,14 @@ use Rattle.ends.specs.RebuilderCall.{questionLength}
 use Rattle.ends.specs.laws.Right.{Fit, StageOk, after-ok, begin-span, first-ok, later-ok, offset-fits}
 use Rattle.ends.specs.Runs.{sizeOf, full}
 use Rattle.ends.specs.laws.SegmentLaws.{Chain}
-use Rattle.ends.specs.Segments.{Effect, Segment, Stage, asks, begin, dropped, effect, hashOf, made, placed, retry, settled, settles, span, theBits, theHash, theSize, theSyndrome, trial, trialOf, waiting, work, offset, afterAnchor}
+use Rattle.ends.specs.Segments.{Effect, Segment, asks, begin, dropped, effect, hashOf, made, placed, retry, settled, settles, span, theBits, theHash, theSize, theSyndrome, trial, trialOf, waiting, work, offset, afterAnchor}
 use Rattle.ends.specs.declared.How.{How}
 use Rattle.ends.specs.declared.How.the-variants.{ByHash, ByPutIn, ByTakeOut}
 use Rattle.strings.specs.declared.settings.Settings.{Settings}
 use Rattle.strings.specs.laws.Tests.{by-test}
 use Rattle.ends.specs.declared.Stage.the-variants.{Hashing, PuttingIn, TakingOut, Anchor, AllBits}
 use Rattle.strings.specs.Bits.{maxBits}
+use Rattle.ends.specs.declared.Stage.{Stage}
 
 -- a piece of a reference of n bits, at its start x
 abbrev pub Shape : Settings → ℕ → ℕ → Segment → Type 0

@@ -12,12 +12,14 @@ use Rattle.strings.specs.laws.Tests.{and-left, and-right}
 use Rattle.ends.specs.laws.Asking.{TakenCall, taken-call}
 use Rattle.ends.specs.RebuilderCall.{Rooms, Step, bitsKnown, effectStep, openingStep, rebuilderCall, roomFor, rowsNeeded, stepOf, takes, wholeStep}
 use Rattle.ends.specs.Segments.{Effect, effect, settles, splits, stays}
+use Rattle.messages.specs.Answers.{Answer}
 use Rattle.ends.specs.laws.SoundParts.{PhaseOf, isOpening, isPieces, isWhole, phase-of, sound-is}
 use Rattle.ends.specs.Soundness.{rowsLeft}
 use Rattle.ends.specs.States.{held, top}
 use Rattle.ends.specs.laws.Steps.{step-opening, step-pieces, step-whole}
 use Rattle.ends.specs.declared.Piece.{Piece}
 use Rattle.ends.specs.declared.Rebuilder.{Rebuilder}
+use Rattle.ends.specs.declared.Phase.the-variants.{AtPieces, AtWhole}
 
 -- waiting pieces leave room for a row
 rows-some : (m w : ℕ) (l : List Piece) → 0 < w → 1 ≤ rowsLeft m (held w l)
@@ -30,6 +32,12 @@ unfolding effectStep
 effect-rows st size (settles w b) = omega arith
 effect-rows st size (stays t) = omega arith
 effect-rows st size (splits s r b) = omega arith
+
+known-pieces : (st : Rebuilder) (a : Answer) → st .phase ≡ AtPieces → bitsKnown st a ≡ st .n
+known-pieces st a e = rw e refl
+
+known-whole : (st : Rebuilder) (a : Answer) → st .phase ≡ AtWhole → bitsKnown st a ≡ st .n
+known-whole st a e = rw e refl
 
 module _ (st : Rebuilder) (y : List ℕ) (bits : ℕ) (msg : List ℕ) (rooms : Rooms) (step : Step) (next : List ℕ) (e : rebuilderCall st y bits msg rooms ≡ takes step next) where
   sheet-room : (n : ℕ) → roomFor st n rooms ≡ true → 2 * (n / st .settings .m) + 1 ≤ rooms .sheet
@@ -53,10 +61,10 @@ module _ (st : Rebuilder) (y : List ℕ) (bits : ℕ) (msg : List ℕ) (rooms : 
           let f : Effect = effect (st .settings) (k .a) (top st .p) (range y (top st .y) (top st .q)) (st .stage) in
           let r = rows-some (st .settings .m) (st .waiting) (st .pieces) w in
           let t = i .stack .rows in
-          let l = later (rw p refl) in
+          let l = later (known-pieces st (k .a) p) in
           let g = effect-rows st (length msg) f in
           rw (step-pieces st y (length msg) (k .a) p) (omega arith)
       go (isWhole p i d) =
           let t = i .stack .rows in
-          let l = later (rw p refl) in
+          let l = later (known-whole st (k .a) p) in
           rw (step-whole st y (length msg) (k .a) p) (unfold wholeStep in omega arith)

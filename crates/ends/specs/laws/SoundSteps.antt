@@ -19,7 +19,7 @@ use Rattle.ends.specs.laws.Moves.{Blank, effectState, held-top, moved-ef
 use Rattle.ends.specs.RebuilderCall.{counting, effectStep, freshRebuilder, openedState, openingStep, stepOf, tallied, wholeStep}
 use Rattle.ends.specs.laws.Right.{StageOk}
 use Rattle.ends.specs.Runs.{blank, sizeOf, full}
-use Rattle.ends.specs.Segments.{Effect, Stage, asks, effect, settles, splits, stays, theBits, theSize, nextStage, firstStage, laterStage, tooSmall}
+use Rattle.ends.specs.Segments.{Effect, asks, effect, settles, splits, stays, theBits, theSize, nextStage, firstStage, laterStage, tooSmall}
 use Rattle.ends.specs.laws.Shape.{Inside, Proper, proper-full, proper-size, sizes}
 use Rattle.ends.specs.laws.SoundLaws.{Ordered, first-fits, fits-stage, next-fits, ordered-from}
 use Rattle.ends.specs.States.{held, leftPiece, noPiece, planned, popped, pushed, restaged, retried, rightPiece, splitAt, top}
@@ -36,6 +36,7 @@ use Rattle.ends.specs.declared.Stage.the-variants.{Hashing, PuttingIn, T
 use Rattle.ends.specs.declared.Attempt.the-variants.{First, Second, Third}
 use Rattle.ends.specs.declared.Phase.{Phase}
 use Rattle.ends.specs.declared.Phase.the-variants.{AtPieces, AtWhole}
+use Rattle.ends.specs.declared.Stage.{Stage}
 
 -- ---- the lists of pieces that an effect leaves
 module _ (S : Settings) (L : Limits S) where

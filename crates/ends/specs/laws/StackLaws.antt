@@ -12,7 +12,7 @@ use borrow.Author.Tests.{lt-ltb, ne-eqb}
 use Rattle.codes.specs.Repair.{putIn, takeOut}
 use Rattle.messages.specs.Answers.{Answer}
 use Rattle.ends.specs.Anchors.{place}
-use Rattle.ends.specs.Segments.{Effect, Stage, effect, firstStage, hashOf, laterStage, placed, retry, settles, splits, stays, theBits, theHash, theSyndrome, trial, trialOf, offset, afterAnchor, nextStage}
+use Rattle.ends.specs.Segments.{Effect, effect, firstStage, hashOf, laterStage, placed, retry, settles, splits, stays, theBits, theHash, theSyndrome, trial, trialOf, offset, afterAnchor, nextStage}
 use Rattle.ends.specs.States.{held, noPiece}
 use Rattle.ends.specs.laws.Store.{anyPiece, topStage}
 use Rattle.ends.specs.declared.How.{How}
@@ -22,6 +22,7 @@ use Rattle.strings.specs.declared.settings.Settings.{Settings}
 use Rattle.strings.specs.laws.Tests.{by-test}
 use Rattle.ends.specs.declared.Stage.the-variants.{Hashing, PuttingIn, TakingOut, Anchor, AllBits}
 use Rattle.ends.specs.declared.Attempt.{Attempt}
+use Rattle.ends.specs.declared.Stage.{Stage}
 
 -- ---- stages
 -- a piece that stays is at the next stage

@@ -13,10 +13,10 @@ use Rattle.ends.specs.laws.Kept.{blank-length}
 use Rattle.ends.specs.laws.Moves.{Moved, effectState, moved-effect, moved-push}
 use Rattle.ends.specs.RebuilderCall.{effectStep, noRow, openedState, openingStep, sheetAfter, stringAfter, tallied, wholeStep}
 use Rattle.ends.specs.Runs.{blank, string}
-use Rattle.ends.specs.Segments.{Effect, Stage, Hashing, row, settles, splits, stays, nextStage, firstStage}
+use Rattle.ends.specs.Segments.{Effect, row, settles, splits, stays, nextStage, firstStage}
 use Rattle.ends.specs.laws.StackLaws.{IsNext, held-any, restage-held}
 use Rattle.ends.specs.States.{held, leftPiece, noPiece, popped, pushed, restaged, retried, rightPiece, splitAt, top}
-use Rattle.ends.specs.laws.Store.{Store, applied, AtPieces, phaseOf, push, rowsAfter, stackAfter, stageAfter, store, topStage}
+use Rattle.ends.specs.laws.Store.{Store, applied, phaseOf, push, rowsAfter, stackAfter, stageAfter, store, topStage}
 use Rattle.ends.specs.declared.How.the-variants.{ByAnchor, ByBits}
 use Rattle.ends.specs.declared.Piece.{Piece}
 use Rattle.ends.specs.declared.Rebuilder.{Rebuilder}
@@ -26,7 +26,9 @@ use Rattle.strings.specs.Bits.{atFront, bytesFor, cleared, pack, writeBits}
 use Rattle.strings.specs.laws.PackLaws.{front-cleared, front-write, length-over}
 use Rattle.strings.specs.laws.StoreLaws.{sets-front}
 use Rattle.strings.specs.laws.WriteLaws.{over}
-use Rattle.ends.specs.declared.Phase.the-variants.{AtWhole}
+use Rattle.ends.specs.declared.Phase.the-variants.{AtWhole, AtPieces}
+use Rattle.ends.specs.declared.Stage.{Stage}
+use Rattle.ends.specs.declared.Stage.the-variants.{Hashing}
 
 -- the string buffer, lent at first with the bytes bs₀, has the store's bits packed at its front; the sheet, lent at first with the rows sh₀,
 -- has the store's rows at its front, and behind them z rows of zeros

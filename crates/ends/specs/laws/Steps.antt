@@ -23,7 +23,7 @@ use Rattle.ends.specs.RebuilderCall.{effectStep, openingStep, sheetAfter
 use Rattle.ends.specs.laws.Right.{begin-span, part-length}
 use Rattle.ends.specs.Runs.{Run, copies, opening, question, sizeOf, whole, working}
 use Rattle.ends.specs.laws.SegmentLaws.{Chain, ask-waits, chain-end, copies-append}
-use Rattle.ends.specs.Segments.{Effect, Segment, Stage, ask, asks, dropped, effect, Hashing, made, row, rowsOf, settled, settles, span, splits, stays, theBits, theSize, waiting, waits, work}
+use Rattle.ends.specs.Segments.{Effect, Segment, ask, asks, dropped, effect, made, row, rowsOf, settled, settles, span, splits, stays, theBits, theSize, waiting, waits, work}
 use Rattle.ends.specs.laws.Shape.{Proper, Shape, proper-bits}
 use Rattle.ends.specs.laws.StackLaws.{IsNext, held-length, is-next}
 use Rattle.ends.specs.laws.Standing.{Stands, Within, stands-effect, stands-opening, stands-whole}
@@ -40,6 +40,8 @@ use Rattle.strings.specs.laws.RangeLaws.{range-part}
 use Rattle.strings.specs.laws.Tests.{true-false}
 use Rattle.ends.specs.declared.Phase.{Phase}
 use Rattle.ends.specs.declared.Phase.the-variants.{AtOpening, AtPieces, AtWhole}
+use Rattle.ends.specs.declared.Stage.{Stage}
+use Rattle.ends.specs.declared.Stage.the-variants.{Hashing}
 
 -- ---- what a step of a run has for the state
 stack-length : (x y : ℕ) (segs : List Segment) → length (stackOf x y segs) ≡ total isWait segs

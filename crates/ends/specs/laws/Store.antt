@@ -22,7 +22,7 @@ use Rattle.ends.specs.laws.Right.{begin-span}
 use Rattle.ends.specs.Runs.{Run, advance, bitsOf, blank, copies, judge, opening, question, sizeOf, string, whole, working}
 use Rattle.ends.specs.laws.SegmentLaws.{Chain, ask-waits, chain-end, copies-append}
 use Rattle.ends.specs.Claims.{total}
-use Rattle.ends.specs.Segments.{Effect, Segment, Stage, ask, asks, begin, dropped, effect, firstStage, hashOf, Hashing, made, newRows, placed, PuttingIn, retry, row, rowsOf, settled, settles, span, splits, stays, step, TakingOut, theBits, theHash, theSize, theSyndrome, trial, trialOf, waiting, waits, work, offset, afterAnchor}
+use Rattle.ends.specs.Segments.{Effect, Segment, ask, asks, begin, dropped, effect, firstStage, hashOf, made, newRows, placed, retry, row, rowsOf, settled, settles, span, splits, stays, step, theBits, theHash, theSize, theSyndrome, trial, trialOf, waiting, waits, work, offset, afterAnchor}
 use Rattle.ends.specs.laws.Shape.{Proper, Shape}
 use Rattle.ends.specs.declared.How.{How}
 use Rattle.ends.specs.declared.How.the-variants.{ByAnchor, ByBits, ByHash, ByPutIn, ByTakeOut}
@@ -31,9 +31,10 @@ use Rattle.ends.specs.declared.Row.{Row}
 use Rattle.strings.specs.declared.settings.Settings.{Settings}
 use Rattle.strings.specs.laws.Tests.{by-test, true-false}
 use Rattle.strings.specs.laws.WriteLaws.{over}
-use Rattle.ends.specs.declared.Stage.the-variants.{Anchor, AllBits}
+use Rattle.ends.specs.declared.Stage.the-variants.{Anchor, AllBits, Hashing, PuttingIn, TakingOut}
 use Rattle.ends.specs.declared.Phase.{Phase}
 use Rattle.ends.specs.declared.Phase.the-variants.{AtOpening, AtPieces, AtWhole}
+use Rattle.ends.specs.declared.Stage.{Stage}
 
 -- ---- the state in numbers: a device of the proofs between the runs and the state struct
 -- the phase, n, the counted bytes, the leftmost piece's stage, the waiting pieces with the leftmost first, the string's bits, the rows

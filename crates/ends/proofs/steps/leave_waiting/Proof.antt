@@ -4,7 +4,7 @@ use Rattle.ends.proofs.steps.leave_waiting.Statement.{statement}
 use Rattle.ends.proofs.steps.leave_waiting.Tie as tie
 
 retry-requires : tie.Need-retry-requires
-retry-requires c κs = retries (c .before .args .st) _ _ ((c .before .pre) .0) ((c .before .pre) .1)
+retry-requires c κs = retries (c .before .args .st) _ _ ((c .before .pre) .0)
 
 tally-requires : tie.Need-tally-requires
 tally-requires c κs = rw (c .retry .ensures) (retried-counts (c .before .before .args .st) _ _ ((c .before .before .pre) .0))

@@ -1,4 +1,5 @@
-use Rattle.ends.specs.code.RebuilderCodeLaws.{holds, offsets, search-ready, anchor-start, anchor-text, anchor-written, anchor-part, place-splits, place-small, anchor-placed, anchor-unplaced, waiting-said, split-said, step-said}
+use Rattle.ends.specs.declared.Stage.the-variants.{Anchor}
+use Rattle.ends.specs.code.RebuilderCodeLaws.{early, holds, offsets, search-ready, anchor-start, anchor-text, anchor-written, anchor-part, place-splits, place-small, anchor-placed, anchor-unplaced, waiting-said, split-said, step-said}
 use borrow.Author.Needs.{needs}
 use Rattle.ends.proofs.steps.take_anchor.Statement.{statement}
 use Rattle.ends.proofs.steps.take_anchor.Tie as tie
@@ -40,7 +41,7 @@ enum-told c = search needs
 leave-waiting-requires : tie.Need-leave-waiting-requires
 leave-waiting-requires c κs =
     let s = c .before .before .before .before .before .before .before .before .before .before .before .before .before .before .before in
-    (s .pre .0, s .pre .1 .1 .0 .1)
+    (s .pre .0, early (Anchor (s .args .i)) (s .pre .1 .1 .0) tt)
 
 enum-known-place : tie.Need-enum-known-place
 enum-known-place c = search needs
@@ -91,7 +92,7 @@ returns c =
     let at-top = at-anchor-offset .before .before .before in
     let s = at-top .before .before .before .before .before in
     let u = anchor-unplaced (s .pre .0) (s .pre .1 .1 .0) (at-top .top .ensures) (at-anchor-offset .anchor-offset .ensures) _ _ (at-place-anchor .place-anchor .ensures) (at-enum-told .enum-told .given .1) in
-    step-said (s .args .st) _ _ (u .1) (waiting-said (s .args .st) _ (u .0) _ (c .before .before .leave-waiting .ensures))
+    step-said (s .args .st) _ _ u (waiting-said (s .args .st) _ _ _ (c .before .before .leave-waiting .ensures))
 
 same-length-2 : tie.Need-same-length-2
 same-length-2 c = search needs

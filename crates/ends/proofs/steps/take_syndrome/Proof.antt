@@ -1,5 +1,5 @@
 use native.Mathlib.Omega.{arith}
-use Rattle.ends.specs.code.RebuilderCodeLaws.{holds, copy-part, copy-short, waiting-said, step-said, found-step, found-fits, nothing-step}
+use Rattle.ends.specs.code.RebuilderCodeLaws.{repair-early, holds, copy-part, copy-short, waiting-said, step-said, found-step, found-fits, nothing-step}
 use borrow.Author.Needs.{needs}
 use Rattle.ends.proofs.steps.take_syndrome.Statement.{statement}
 use Rattle.ends.proofs.steps.take_syndrome.Tie as tie
@@ -28,7 +28,9 @@ enum-told : tie.Need-enum-told
 enum-told c = search needs
 
 leave-waiting-requires : tie.Need-leave-waiting-requires
-leave-waiting-requires c κs = search needs
+leave-waiting-requires c κs =
+    let s = c .before .before .before .before .before .before .before .before .before .before .before .before in
+    (s .pre .0, repair-early (s .args .st) (s .pre .1 .1))
 
 enum-known-e : tie.Need-enum-known-e
 enum-known-e c = search needs
@@ -38,7 +40,7 @@ try-edit-requires c κs =
     let at-find-repair = c .before .before .before .before .before in
     let at-top = at-find-repair .before .before .before .before .before in
     let s = at-top .before .before .before .before in
-    (s .pre .0, (s .pre .1 .0, ((let a = s .pre .1 .1 .0 in omega arith), found-fits (s .args .st) _ (s .args .size) (s .args .a) (s .args .v) (s .pre .0 .phase) (s .pre .1 .1 .0) (s .pre .1 .1 .1) (at-top .top .ensures) (at-find-repair .find-repair .ensures) (c .before .before .before .e .given .1))))
+    (s .pre .0, (s .pre .1 .0, (repair-early (s .args .st) (s .pre .1 .1), found-fits (s .args .st) _ (s .args .size) (s .args .a) (s .args .v) (s .pre .0 .phase) (s .pre .1 .1) (at-top .top .ensures) (at-find-repair .find-repair .ensures) (c .before .before .before .e .given .1))))
 
 same-length : tie.Need-same-length
 same-length c = search needs
@@ -49,7 +51,7 @@ returns c =
     let at-find-repair = at-enum-told .before .before in
     let at-top = at-find-repair .before .before .before .before .before in
     let s = at-top .before .before .before .before in
-    step-said (s .args .st) _ _ (nothing-step (s .args .st) _ (s .args .size) (s .args .a) (s .args .v) (s .pre .0 .phase) (s .pre .1 .1 .0) (s .pre .1 .1 .1) (at-top .top .ensures) (at-find-repair .find-repair .ensures) (at-enum-told .enum-told .given .1)) (waiting-said (s .args .st) _ _ _ (c .before .before .leave-waiting .ensures))
+    step-said (s .args .st) _ _ (nothing-step (s .args .st) _ (s .args .size) (s .args .a) (s .args .v) (s .pre .0 .phase) (s .pre .1 .1) (at-top .top .ensures) (at-find-repair .find-repair .ensures) (at-enum-told .enum-told .given .1)) (waiting-said (s .args .st) _ _ _ (c .before .before .leave-waiting .ensures))
 
 same-length-2 : tie.Need-same-length-2
 same-length-2 c = search needs
@@ -65,7 +67,7 @@ returns-2 c =
     let at-repair-how = at-find-repair .before in
     let at-top = at-repair-how .before .before .before .before in
     let s = at-top .before .before .before .before in
-    step-said (s .args .st) _ _ (found-step (s .args .st) _ (s .args .size) (s .args .a) (s .args .v) (s .pre .0 .phase) (s .pre .1 .1 .0) (s .pre .1 .1 .1) (at-top .top .ensures) (at-find-repair .find-repair .ensures) (at-repair-how .repair-how .ensures) (at-e .e .given .1)) (at-try-edit .try-edit .ensures)
+    step-said (s .args .st) _ _ (found-step (s .args .st) _ (s .args .size) (s .args .a) (s .args .v) (s .pre .0 .phase) (s .pre .1 .1) (at-top .top .ensures) (at-find-repair .find-repair .ensures) (at-repair-how .repair-how .ensures) (at-e .e .given .1)) (at-try-edit .try-edit .ensures)
 
 pub take-syndrome-spec : {M : Type 1} → statement M
 take-syndrome-spec =
