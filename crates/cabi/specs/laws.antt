@@ -3,3 +3,4 @@ pub mod PackingLaws
 pub mod HolderBytesLaws
 pub mod RebuilderBytesLaws
 pub mod CarriedLaws
+pub mod KeptLaws

@@ -1,5 +1,7 @@
 // The C interface: what a host calls, on numbers and byte slices. include/lunetteorris.h declares it, docs/LAYOUT.md has the layouts.
 // A result is value * 16 + refusal (specs/Packing.antt).
+// A state stands in the first bytes of its slice, which may have more: those are neither read nor written. Fewer get 3 in the calls, 9 in
+// the two functions that make a state.
 ghost use mathlib.Core.Path.{_≡_};
 ghost use mathlib.Core.List.{_++_};
 ghost use Prim.Native.Nat.{_*_, _≤_};
@@ -9,13 +11,16 @@ ghost use Rattle.ends.specs.RebuilderCall.{rowsNeeded};
 ghost use Rattle.ends.specs.AnchorSearch.{anchorSearch};
 ghost use Rattle.cabi.specs.Packing.{packed, numbered, outcomeNumber, placeNumber};
 ghost use Rattle.cabi.specs.Calls.{holderMade, holderOnBytes, holderLeft, startOnBytes, startLeft, rebuilderOnBytes, rebuilderLeft, roomsIn};
-ghost use Rattle.layout.specs.Layout.{rebuilderBytes};
-ghost use Rattle.layout.specs.Sheet.{sheetBytesAfter};
+ghost use Rattle.layout.specs.Layout.{rebuilderSize, rebuilderBytes};
+ghost use Rattle.layout.specs.Sheet.{rowSize, sheetBytesAfter};
 use ends::HolderAnswer;
 use ends::Rebuilder;
 use ends::RebuilderAnswer;
 use ends::SheetChange;
 use ends::StartAnswer;
+use layout::HOLDER_BYTES;
+use layout::REBUILDER_BYTES;
+use layout::ROW_BYTES;
 use strings::Settings;
 
 mod packing;
@@ -70,7 +75,8 @@ pub extern "C" fn lo_anchor(
 pub extern "C" fn lo_holder_fresh(state: &mut [u8]) -> u64
     ensures { λ r. ⌜ record { result = r; state = now (state .exit) } ≡ holderMade (now (state .entry)) ⌝ }
 {
-    if state.len() < 20 {
+    let room = state.len();
+    if room < HOLDER_BYTES {
         return 9;
     }
     let fresh = ends::fresh_holder();
@@ -92,7 +98,7 @@ pub extern "C" fn lo_holder_answer(
     if !strings::keeps_string_rule(x, bits) {
         return 2;
     }
-    if state.len() != 20 {
+    if state.len() < HOLDER_BYTES {
         return 3;
     }
     let st = layout::read_holder(state);
@@ -129,7 +135,8 @@ pub extern "C" fn lo_rebuilder_start(
     if !strings::keeps_string_rule(y, bits) {
         return 2;
     }
-    if state.len() < 564 {
+    let room = state.len();
+    if room < REBUILDER_BYTES {
         return 9;
     }
     let out = ends::rebuilder_start(s, y, bits, question);
@@ -145,11 +152,11 @@ pub extern "C" fn lo_rebuilder_start(
 
 // What a taken call of the rebuilder leaves in state and sheet, and its result for a question of that length.
 fn keep(state: &mut [u8], sheet: &mut [u8], st: Rebuilder, change: SheetChange, size: usize) -> u64
-    requires { ⌜ 564 ≤ length (now state) ⌝ }
-    requires { ⌜ 12 * rowsNeeded change ≤ length (now sheet) ⌝ }
+    requires { ⌜ rebuilderSize ≤ length (now state) ⌝ }
+    requires { ⌜ rowSize * rowsNeeded change ≤ length (now sheet) ⌝ }
     requires { ⌜ size ≤ 16 ⌝ }
     ensures { λ r. ⌜ r ≡ size * 16 ⌝ }
-    ensures { λ r. ⌜ now (state .exit) ≡ rebuilderBytes st ++ drop 564 (now (state .entry)) ⌝ }
+    ensures { λ r. ⌜ now (state .exit) ≡ rebuilderBytes st ++ drop rebuilderSize (now (state .entry)) ⌝ }
     ensures { λ r. ⌜ now (sheet .exit) ≡ sheetBytesAfter (now (sheet .entry)) change ⌝ }
 {
     layout::write_rebuilder(state, st);
@@ -173,11 +180,11 @@ pub extern "C" fn lo_rebuilder_call(
     if !strings::keeps_string_rule(y, bits) {
         return 2;
     }
-    if state.len() != 564 {
+    if state.len() < REBUILDER_BYTES {
         return 3;
     }
     let st = layout::read_rebuilder(state);
-    let rows = sheet.len() / 12;
+    let rows = sheet.len() / ROW_BYTES;
     let out = ends::rebuilder_call(st, y, bits, msg, rows, string, question);
     let answer = out.answer;
     let next = out.state;

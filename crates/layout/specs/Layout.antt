@@ -14,6 +14,9 @@ allBytes [] = []
 allBytes (v ∷ l) = bytesOf v ++ allBytes l
 
 -- ---- the holder's state: 20 bytes
+abbrev pub holderSize : ℕ
+holderSize = 20
+
 unfoldable pub holderBytes : Holder → List ℕ
 holderBytes st = allBytes (st .opened ∷ st .bits ∷ st .h ∷ st .key ∷ st .answers ∷ [])
 
@@ -38,6 +41,9 @@ piecesAt s at zero = []
 piecesAt s at (suc n) = pieceAt s at ∷ piecesAt s (at + 16) n
 
 -- ---- the rebuilder's state: 564 bytes, 52 of single numbers and 32 pieces
+abbrev pub rebuilderSize : ℕ
+rebuilderSize = 564
+
 unfoldable pub fieldBytes : Rebuilder → List ℕ
 fieldBytes st = allBytes (
     st .settings .m ∷ st .settings .h ∷ st .settings .k ∷ st .settings .key ∷ st .settings .ceiling ∷

@@ -10,6 +10,9 @@ use Rattle.ends.specs.RebuilderCall.{noRow}
 use Rattle.layout.specs.Bytes32.{wordAt}
 use Rattle.layout.specs.Layout.{allBytes}
 
+abbrev pub rowSize : ℕ
+rowSize = 12
+
 unfoldable pub rowBytes : Row → List ℕ
 rowBytes r = allBytes (r .start ∷ r .len ∷ r .how ∷ [])
 
@@ -24,14 +27,14 @@ rowAt s at = record { start = wordAt s at; len = wordAt s (at + 4); how = wordAt
 -- n rows from an offset on
 unfoldable pub rowsAt : List ℕ → (at n : ℕ) → List Row
 rowsAt s at zero = []
-rowsAt s at (suc n) = rowAt s at ∷ rowsAt s (at + 12) n
+rowsAt s at (suc n) = rowAt s at ∷ rowsAt s (at + rowSize) n
 
 -- the rows that a sheet of bytes holds
 unfoldable pub rowsIn : List ℕ → List Row
-rowsIn s = rowsAt s 0 (length s / 12)
+rowsIn s = rowsAt s 0 (length s / rowSize)
 
 -- what a call's change of the sheet makes of the bytes; ends' sheetAfter says it of rows
 abbrev pub sheetBytesAfter : List ℕ → SheetChange → List ℕ
 sheetBytesAfter s NoRow = s
-sheetBytesAfter s (AddRow i r) = sets s (12 * i) (rowBytes r)
+sheetBytesAfter s (AddRow i r) = sets s (rowSize * i) (rowBytes r)
 sheetBytesAfter s (OneRow used r) = sets s 0 (rowsBytes (r ∷ replicate (used - 1) noRow))

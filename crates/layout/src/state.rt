@@ -5,7 +5,7 @@ ghost use Prim.Native.Nat.{_+_, _≤_};
 ghost use lib.ListN.{length, drop, replicate};
 ghost use lib.Seq.{sets};
 ghost use Rattle.ends.specs.States.{noPiece};
-ghost use Rattle.layout.specs.Layout.{holderBytes, holderOf, pieceBytes, pieceAt, piecesBytes, fieldBytes, rebuilderBytes, fieldsOf, rebuilderOf};
+ghost use Rattle.layout.specs.Layout.{holderSize, holderBytes, holderOf, pieceBytes, pieceAt, piecesBytes, rebuilderSize, fieldBytes, rebuilderBytes, fieldsOf, rebuilderOf};
 use crate::numbers::read_u32;
 use crate::numbers::write_four;
 use crate::numbers::write_u32;
@@ -23,7 +23,7 @@ const NO_PIECE: Piece = Piece {
 
 // The holder's state that the first 20 bytes say.
 pub fn read_holder(s: &[u8]) -> Holder
-    requires { ⌜ 20 ≤ length (now s) ⌝ }
+    requires { ⌜ holderSize ≤ length (now s) ⌝ }
     ensures { λ r. ⌜ r ≡ holderOf (now (s .entry)) ⌝ }
 {
     Holder {
@@ -37,8 +37,8 @@ pub fn read_holder(s: &[u8]) -> Holder
 
 // The first 20 bytes become those of a holder's state.
 pub fn write_holder(s: &mut [u8], st: Holder)
-    requires { ⌜ 20 ≤ length (now s) ⌝ }
-    ensures { λ r. ⌜ now (s .exit) ≡ holderBytes st ++ drop 20 (now (s .entry)) ⌝ }
+    requires { ⌜ holderSize ≤ length (now s) ⌝ }
+    ensures { λ r. ⌜ now (s .exit) ≡ holderBytes st ++ drop holderSize (now (s .entry)) ⌝ }
 {
     write_four(s, 0, st.opened, st.bits, st.h, st.key);
     write_u32(s, 16, st.answers);
@@ -101,7 +101,7 @@ fn read_fields(s: &[u8]) -> Rebuilder
 
 // The rebuilder's state that the first 564 bytes say.
 pub fn read_rebuilder(s: &[u8]) -> Rebuilder
-    requires { ⌜ 564 ≤ length (now s) ⌝ }
+    requires { ⌜ rebuilderSize ≤ length (now s) ⌝ }
     ensures { λ r. ⌜ r ≡ rebuilderOf (now (s .entry)) ⌝ }
 {
     let mut st = read_fields(s);
@@ -128,7 +128,7 @@ fn write_fields(s: &mut [u8], st: Rebuilder)
 
 // The 32 pieces of a state are written from offset 52 on.
 fn write_pieces(s: &mut [u8], st: Rebuilder)
-    requires { ⌜ 564 ≤ length (now s) ⌝ }
+    requires { ⌜ rebuilderSize ≤ length (now s) ⌝ }
     ensures { λ r. ⌜ now (s .exit) ≡ sets (now (s .entry)) 52 (piecesBytes (st .pieces) 0 32) ⌝ }
 {
     let mut i: usize = 0;
@@ -141,8 +141,8 @@ fn write_pieces(s: &mut [u8], st: Rebuilder)
 
 // The first 564 bytes become those of a rebuilder's state.
 pub fn write_rebuilder(s: &mut [u8], st: Rebuilder)
-    requires { ⌜ 564 ≤ length (now s) ⌝ }
-    ensures { λ r. ⌜ now (s .exit) ≡ rebuilderBytes st ++ drop 564 (now (s .entry)) ⌝ }
+    requires { ⌜ rebuilderSize ≤ length (now s) ⌝ }
+    ensures { λ r. ⌜ now (s .exit) ≡ rebuilderBytes st ++ drop rebuilderSize (now (s .entry)) ⌝ }
 {
     write_fields(s, st);
     write_pieces(s, st);

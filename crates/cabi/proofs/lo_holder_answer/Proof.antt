@@ -28,7 +28,7 @@ called c =
       st = _;
       out = c .holder-call .result;
       rule = string-kept (if2 .before);
-      whole = if2 .if2 .left;
+      whole = (let w = if2 .if2 .left in omega arith);
       read = read .read-holder .ensures;
       said = c .holder-call .ensures;
     }

@@ -1,7 +1,7 @@
 use mathlib.Core.Path.{ap, _∙_}
 use mathlib.Core.List.{_++_}
 use lib.ListN.{drop}
-use Rattle.layout.specs.Layout.{holderBytes}
+use Rattle.layout.specs.Layout.{holderSize, holderBytes}
 use Rattle.cabi.specs.laws.HolderBytesLaws.{fresh-short, fresh-whole}
 use borrow.Author.Needs.{needs}
 use Rattle.cabi.proofs.lo_holder_fresh.Statement.{statement}
@@ -21,7 +21,7 @@ same-length c = search needs
 
 returns-2 : tie.Need-returns-2
 returns-2 c =
-    fresh-whole _ _ (c .before .before .before .before .before .if1 .left) (c .before .before .write-holder .ensures ∙ ap (λ st. holderBytes st ++ drop 20 (c .before .before .before .before .before .before .before .args .state .now)) (c .before .before .before .before .fresh-holder .ensures))
+    fresh-whole _ _ (c .before .before .before .before .before .if1 .left) (c .before .before .write-holder .ensures ∙ ap (λ st. holderBytes st ++ drop holderSize (c .before .before .before .before .before .before .before .args .state .now)) (c .before .before .before .before .fresh-holder .ensures))
 
 pub lo-holder-fresh-spec : {M : Type 1} → statement M
 lo-holder-fresh-spec =

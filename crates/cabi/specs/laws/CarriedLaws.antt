@@ -26,8 +26,8 @@ use Rattle.ends.specs.laws.SoundSteps.{fresh-sound}
 use Rattle.ends.specs.RebuilderCall.{starts, unlessStarted, rebuilderStart, freshRebuilder, takes, unlessTaken, Step, Rooms, rebuilderCall}
 use Rattle.ends.specs.laws.Asking.{unless-taken, call-sound}
 use Rattle.ends.specs.laws.Delivery.{unless-started, started-is}
-use Rattle.layout.specs.Layout.{rebuilderBytes, rebuilderOf}
-use Rattle.layout.specs.laws.LayoutLaws.{PieceFits, RebuilderFits, rebuilder-read, rebuilder-back, rebuilder-pieces}
+use Rattle.layout.specs.Layout.{rebuilderSize, rebuilderBytes, rebuilderOf}
+use Rattle.layout.specs.laws.LayoutLaws.{PieceFits, RebuilderFits, rebuilder-read, rebuilder-pieces}
 use Rattle.cabi.specs.Calls.{startOnBytes, rebuilderOnBytes}
 
 -- ---- every number of a sound state is below 2^32
@@ -129,23 +129,23 @@ sound-fits st e l =
     }
 
 -- ---- the start and the call
--- later bytes of the state's slice are not read
+-- what they leave is read as the state, whatever follows it
 pub start-carried : (S : Settings) (y : List ℕ) (bits stateRoom room : ℕ) (st : Rebuilder) (m l : List ℕ) → startOnBytes S y bits stateRoom room ≡ starts st m
     → rebuilderOf (rebuilderBytes st ++ l) ≡ st
 unfolding startOnBytes
 start-carried S y bits stateRoom room st m l e =
-    let t = unless-started (withinLimits S) BadSetting (unlessStarted (stringRule y bits) BadString (unlessStarted (leb 564 stateRoom) BufferTooShort (rebuilderStart S y bits room))) st m e in
-    let u = unless-started (stringRule y bits) BadString (unlessStarted (leb 564 stateRoom) BufferTooShort (rebuilderStart S y bits room)) st m (t .1) in
-    let v = unless-started (leb 564 stateRoom) BufferTooShort (rebuilderStart S y bits room) st m (u .1) in
+    let t = unless-started (withinLimits S) BadSetting (unlessStarted (stringRule y bits) BadString (unlessStarted (leb rebuilderSize stateRoom) BufferTooShort (rebuilderStart S y bits room))) st m e in
+    let u = unless-started (stringRule y bits) BadString (unlessStarted (leb rebuilderSize stateRoom) BufferTooShort (rebuilderStart S y bits room)) st m (t .1) in
+    let v = unless-started (leb rebuilderSize stateRoom) BufferTooShort (rebuilderStart S y bits room) st m (u .1) in
     let k = started-is S y bits room st m (v .1) in
     let f = fresh-sound S bits (k .limits) (rule-is y bits (k .string) .few) in
     rebuilder-read st l (rw (k .state) (sound-fits (freshRebuilder S bits) (f .0) (f .1)))
 
-pub call-carried : (s y : List ℕ) (bits : ℕ) (msg : List ℕ) (rooms : Rooms) (j : Step) (m : List ℕ) → Bytes msg → rebuilderOnBytes s y bits msg rooms ≡ takes j m
-    → rebuilderOf (rebuilderBytes (j .state)) ≡ j .state
+pub call-carried : (s y : List ℕ) (bits : ℕ) (msg : List ℕ) (rooms : Rooms) (j : Step) (m l : List ℕ) → Bytes msg → rebuilderOnBytes s y bits msg rooms ≡ takes j m
+    → rebuilderOf (rebuilderBytes (j .state) ++ l) ≡ j .state
 unfolding rebuilderOnBytes
-call-carried s y bits msg rooms j m b e =
-    let u = unless-taken (stringRule y bits) BadString (unlessTaken (eqb (length s) 564) OutOfTurn (rebuilderCall (rebuilderOf s) y bits msg rooms)) j m e in
-    let v = unless-taken (eqb (length s) 564) OutOfTurn (rebuilderCall (rebuilderOf s) y bits msg rooms) j m (u .1) in
+call-carried s y bits msg rooms j m l b e =
+    let u = unless-taken (stringRule y bits) BadString (unlessTaken (leb rebuilderSize (length s)) OutOfTurn (rebuilderCall (rebuilderOf s) y bits msg rooms)) j m e in
+    let v = unless-taken (leb rebuilderSize (length s)) OutOfTurn (rebuilderCall (rebuilderOf s) y bits msg rooms) j m (u .1) in
     let f = call-sound (rebuilderOf s) y bits msg rooms j m (rebuilder-pieces s) b (v .1) in
-    rebuilder-back (j .state) (sound-fits (j .state) (f .0) (f .1))
+    rebuilder-read (j .state) l (sound-fits (j .state) (f .0) (f .1))

@@ -1,12 +1,12 @@
 -- Laws of a fresh holder and of the holder's call on bytes: its returns, and that the bytes carry the state from call to call.
 use mathlib.Core.Path.{_≡_, refl, sym, ap, _∙_}
 use mathlib.Core.Bool.{Bool, true, false}
-use mathlib.Core.List.{List, _++_, append-nil}
+use mathlib.Core.List.{List, _++_}
 use Prim.Native.Nat.{ℕ, _+_, _*_, _≤_, _<_}
 use native.Mathlib.Omega.{arith}
-use lib.ListN.{length, drop, length-append, length-take, length-drop, drop-of-length-le}
-use lib.Dec.{eqb}
-use borrow.Author.Tests.{le-leb, lt-leb, eq-eqb, ne-eqb}
+use lib.ListN.{length, drop, length-append, length-take, length-drop}
+use lib.Dec.{leb}
+use borrow.Author.Tests.{le-leb, lt-leb}
 use Rattle.strings.specs.Bits.{range, atFront}
 use Rattle.strings.specs.laws.PackLaws.{Bytes}
 use Rattle.strings.specs.laws.RangeLaws.{range-length}
@@ -32,24 +32,25 @@ use Rattle.ends.specs.laws.HolderLaws.{unless-heard, heard-call, Made, opens, c
 use Rattle.ends.specs.declared.answering.HolderAnswer.the-variants.{Replied, Refused}
 use Rattle.ends.specs.declared.answering.HolderOut.{HolderOut}
 use Rattle.ends.specs.HolderOutcome.{HolderSaid, answerSaid, saidHolder, leavesHolder}
-use Rattle.layout.specs.Layout.{holderBytes, holderOf}
-use Rattle.layout.specs.laws.LayoutLaws.{holder-back, holder-fits, length-holder}
+use Rattle.layout.specs.Layout.{holderSize, holderBytes, holderOf}
+use Rattle.layout.specs.laws.LayoutLaws.{holder-read, holder-fits, length-holder}
 use Rattle.cabi.specs.Packing.{packed}
 use Rattle.cabi.specs.Calls.{holderMade, holderOnBytes, HolderLeft, holderLeft}
 
 -- ---- a fresh holder
-pub fresh-short : (s : List ℕ) → length s < 20 → record { result = 9; state = s } ≡ holderMade s
+pub fresh-short : (s : List ℕ) → length s < holderSize → record { result = 9; state = s } ≡ holderMade s
 unfolding holderMade packed
-fresh-short s h = rw (lt-leb 20 (length s) h) refl
+fresh-short s h = rw (lt-leb holderSize (length s) h) refl
 
-pub fresh-whole : (s t : List ℕ) → 20 ≤ length s → t ≡ holderBytes freshHolder ++ drop 20 s → record { result = 0; state = t } ≡ holderMade s
+pub fresh-whole : (s t : List ℕ) → holderSize ≤ length s → t ≡ holderBytes freshHolder ++ drop holderSize s → record { result = 0; state = t } ≡ holderMade s
 unfolding holderMade packed
 fresh-whole s t h e =
-    rw (le-leb 20 (length s) h, e) (ap (λ (n : ℕ). record { result = 0; state = holderBytes freshHolder ++ drop n s }) (sym (length-holder freshHolder)))
+    rw (le-leb holderSize (length s) h, e) (ap (λ (n : ℕ). record { result = 0; state = holderBytes freshHolder ++ drop n s }) (sym (length-holder freshHolder)))
 
-pub fresh-carried : holderOf (holderBytes freshHolder) ≡ freshHolder
-fresh-carried =
-    holder-back freshHolder (record { opened-fits = omega arith; bits-fits = omega arith; h-fits = omega arith; key-fits = omega arith; answers-fits = omega arith })
+-- it is read from its bytes, whatever follows them
+pub fresh-carried : (l : List ℕ) → holderOf (holderBytes freshHolder ++ l) ≡ freshHolder
+fresh-carried l =
+    holder-read freshHolder l (record { opened-fits = omega arith; bits-fits = omega arith; h-fits = omega arith; key-fits = omega arith; answers-fits = omega arith })
 
 -- ---- a reply has at most 65,536 bytes
 part-most : (l : List Bool) (x p : ℕ) → length (part l x p) ≤ length l
@@ -83,14 +84,14 @@ module _ (s x : List ℕ) (bits : ℕ) (msg reply : List ℕ) where
   unfolding holderOnBytes packed
   holder-bad-string e = rw e refl
 
-  pub holder-no-state : stringRule x bits ≡ true → (length s ≡ 20 → ⊥)
+  pub holder-no-state : stringRule x bits ≡ true → length s < holderSize
       → record { result = 3; state = s; reply = reply } ≡ holderLeft s reply (holderOnBytes s x bits msg (length reply))
   unfolding holderOnBytes packed
-  holder-no-state e f = rw (e, ne-eqb (length s) 20 f) refl
+  holder-no-state e f = rw (e, lt-leb holderSize (length s) f) refl
 
-  pub holder-called : stringRule x bits ≡ true → length s ≡ 20 → holderOnBytes s x bits msg (length reply) ≡ holderCall (holderOf s) x bits msg (length reply)
+  pub holder-called : stringRule x bits ≡ true → holderSize ≤ length s → holderOnBytes s x bits msg (length reply) ≡ holderCall (holderOf s) x bits msg (length reply)
   unfolding holderOnBytes
-  holder-called e f = rw (e, eq-eqb (length s) 20 f) refl
+  holder-called e f = rw (e, le-leb holderSize (length s) f) refl
 
 -- what the call on the state says, as bytes
 module _ (s reply reply′ : List ℕ) (st : Holder) (out : HolderOut) where
@@ -118,7 +119,8 @@ module _ (s reply reply′ : List ℕ) (st : Holder) (out : HolderOut) where
       let c : size ≡ length m = cc in
       let i = h next m refl in omega arith
 
-  holder-replied : (t : Heard) (size : ℕ) (s′ : List ℕ) → saidHolder out reply′ ≡ leavesHolder st reply t → out .answer ≡ Replied size → s′ ≡ holderBytes (out .state)
+  holder-replied : (t : Heard) (size : ℕ) (s′ : List ℕ) → saidHolder out reply′ ≡ leavesHolder st reply t → out .answer ≡ Replied size
+      → s′ ≡ holderBytes (out .state) ++ drop holderSize s
       → record { result = size * 16; state = s′; reply = reply′ } ≡ holderLeft s reply t
   unfolding packed
   holder-replied (declines d) size s′ k f g =
@@ -131,7 +133,9 @@ module _ (s reply reply′ : List ℕ) (st : Holder) (out : HolderOut) where
       let c : size ≡ length m = cc in
       let d : out .state ≡ next = ap (λ (w : HolderSaid). w .state) k in
       let i : reply′ ≡ atFront m reply = ap (λ (w : HolderSaid). w .reply) k in
-      rw (g, d, c, i) refl
+      let j : s′ ≡ atFront (holderBytes next) s
+      = g ∙ ap (λ (z : Holder). holderBytes z ++ drop holderSize s) d ∙ ap (λ (n : ℕ). holderBytes next ++ drop n s) (sym (length-holder next)) in
+      rw (c, j, i) refl
 
 -- for the code: what is known where the call on the state that was read has answered
 pub record HolderCalled : Type 0 where
@@ -144,7 +148,7 @@ pub record HolderCalled : Type 0 where
   pub st : Holder
   pub out : HolderOut
   pub rule : stringRule x bits ≡ true
-  pub whole : length s ≡ 20
+  pub whole : holderSize ≤ length s
   pub read : st ≡ holderOf s
   pub said : saidHolder out reply′ ≡ leavesHolder st reply (holderCall st x bits msg (length reply))
 
@@ -167,20 +171,17 @@ module _ (k : HolderCalled) where
   answer-small {size} a =
       holder-size (k .s) (k .reply) (k .reply′) (k .st) (k .out) heard size (k .said) a (reply-most (k .st) (k .x) (k .bits) (k .msg) (length (k .reply)))
 
-  pub answer-replied : {size : ℕ} {s′ : List ℕ} → k .out .answer ≡ Replied size → s′ ≡ holderBytes (k .out .state) ++ drop 20 (k .s)
+  pub answer-replied : {size : ℕ} {s′ : List ℕ} → k .out .answer ≡ Replied size → s′ ≡ holderBytes (k .out .state) ++ drop holderSize (k .s)
       → record { result = size * 16; state = s′; reply = k .reply′ } ≡ holderLeaves
-  answer-replied {size} {s′} a h =
-      let n = k .whole in
-      let all : s′ ≡ holderBytes (k .out .state) = rw h (rw (drop-of-length-le (k .s) {i = 20} (omega arith)) (append-nil (holderBytes (k .out .state)))) in
-      holder-replied (k .s) (k .reply) (k .reply′) (k .st) (k .out) heard size s′ (k .said) a all ∙ called
+  answer-replied {size} {s′} a h = holder-replied (k .s) (k .reply) (k .reply′) (k .st) (k .out) heard size s′ (k .said) a h ∙ called
 
--- ---- the bytes carry the state: what a taken call leaves is read as its next state
-pub holder-carried : (s x : List ℕ) (bits : ℕ) (msg : List ℕ) (room : ℕ) (next : Holder) (m : List ℕ) → Bytes s → Bytes msg
-    → holderOnBytes s x bits msg room ≡ replies next m → holderOf (holderBytes next) ≡ next
+-- ---- the bytes carry the state: what a taken call leaves is read as its next state, whatever follows it
+pub holder-carried : (s x : List ℕ) (bits : ℕ) (msg : List ℕ) (room : ℕ) (next : Holder) (m l : List ℕ) → Bytes s → Bytes msg
+    → holderOnBytes s x bits msg room ≡ replies next m → holderOf (holderBytes next ++ l) ≡ next
 unfolding holderOnBytes
-holder-carried s x bits msg room next m b c e =
-    let u = unless-heard (stringRule x bits) BadString (unlessHeard (eqb (length s) 20) OutOfTurn (holderCall (holderOf s) x bits msg room)) next m e in
-    let v = unless-heard (eqb (length s) 20) OutOfTurn (holderCall (holderOf s) x bits msg room) next m (u .1) in
+holder-carried s x bits msg room next m l b c e =
+    let u = unless-heard (stringRule x bits) BadString (unlessHeard (leb holderSize (length s)) OutOfTurn (holderCall (holderOf s) x bits msg room)) next m e in
+    let v = unless-heard (leb holderSize (length s)) OutOfTurn (holderCall (holderOf s) x bits msg room) next m (u .1) in
     let o = holder-sound (holderOf s) x bits msg room next m (v .1) in
     let k = heard-call (holderOf s) x bits msg room next m (v .1) in
     let p = o .opened in
@@ -188,7 +189,7 @@ holder-carried s x bits msg room next m b c e =
     let r = o .h-most in
     let w = o .answers-most in
     let i = fields-form msg c (k .kind) (k .at) bits (k .q) (k .fields) .range .key-most in
-    holder-back next (record {
+    holder-read next l (record {
       opened-fits = omega arith;
       bits-fits = omega arith;
       h-fits = omega arith;

@@ -1,12 +1,12 @@
 -- Laws of the rebuilder's start and call on bytes: its returns, that a change of the sheet lies in its bytes, that results are small.
 use mathlib.Core.Path.{_≡_, refl, sym, ap, _∙_}
 use mathlib.Core.Bool.{true, false}
-use mathlib.Core.List.{List, [], _∷_, _++_, append-nil}
+use mathlib.Core.List.{List, [], _∷_, _++_}
 use mathlib.Core.Option.{Option, none, some}
 use Prim.Native.Nat.{ℕ, _+_, _*_, _≤_, _<_}
 use native.Mathlib.Omega.{arith}
-use lib.ListN.{length, drop, length-append, drop-of-length-le}
-use borrow.Author.Tests.{le-leb, lt-leb, eq-eqb, ne-eqb}
+use lib.ListN.{length, drop, length-append}
+use borrow.Author.Tests.{le-leb, lt-leb}
 use Rattle.strings.specs.Bits.{atFront}
 use Rattle.strings.specs.StringRule.{stringRule}
 use Rattle.strings.specs.Refusals.{refusalNumber}
@@ -33,9 +33,9 @@ use Rattle.ends.specs.declared.rebuilding.RebuilderAnswer.the-variants.{Refused
 use Rattle.ends.specs.declared.rebuilding.RebuilderOut.{RebuilderOut}
 use Rattle.ends.specs.RebuilderOutcome.{startSaid, StartSaid, saidStart, leavesStart, callSaid, RebuilderSaid, saidRebuilder, nextSize, leavesRebuilder}
 use Rattle.ends.specs.code.SheetCallLaws.{change-fits}
-use Rattle.layout.specs.Layout.{rebuilderBytes, rebuilderOf}
+use Rattle.layout.specs.Layout.{rebuilderSize, rebuilderBytes, rebuilderOf}
 use Rattle.layout.specs.laws.LayoutLaws.{length-rebuilder}
-use Rattle.layout.specs.Sheet.{sheetBytesAfter}
+use Rattle.layout.specs.Sheet.{rowSize, sheetBytesAfter}
 use Rattle.cabi.specs.Packing.{packed}
 use Rattle.cabi.specs.Calls.{startOnBytes, StartLeft, startLeft, rebuilderOnBytes, roomsIn, RebuilderLeft, rebuilderLeft}
 
@@ -78,15 +78,15 @@ module _ (s y : List ℕ) (bits : ℕ) (msg string sheet question : List ℕ) wh
   unfolding rebuilderOnBytes packed
   call-bad-string e = rw e refl
 
-  pub call-no-state : stringRule y bits ≡ true → (length s ≡ 564 → ⊥)
+  pub call-no-state : stringRule y bits ≡ true → length s < rebuilderSize
       → record { result = 3; state = s; string = string; sheet = sheet; question = question } ≡ callLeaves s y bits msg string sheet question
   unfolding rebuilderOnBytes packed
-  call-no-state e f = rw (e, ne-eqb (length s) 564 f) refl
+  call-no-state e f = rw (e, lt-leb rebuilderSize (length s) f) refl
 
-  rebuilder-called : stringRule y bits ≡ true → length s ≡ 564
+  rebuilder-called : stringRule y bits ≡ true → rebuilderSize ≤ length s
       → rebuilderOnBytes s y bits msg (roomsIn string sheet question) ≡ rebuilderCall (rebuilderOf s) y bits msg (roomsIn string sheet question)
   unfolding rebuilderOnBytes
-  rebuilder-called e f = rw (e, eq-eqb (length s) 564 f) refl
+  rebuilder-called e f = rw (e, le-leb rebuilderSize (length s) f) refl
 
 -- the length of the next question
 abbrev pub askedSize : Option ℕ → ℕ
@@ -96,6 +96,10 @@ askedSize none = 0
 next-size : (m : List ℕ) → askedSize (nextSize m) ≡ length m
 next-size [] = refl
 next-size (b ∷ m) = refl
+
+-- a state written to the front of bytes
+front : (s : List ℕ) (st next : Rebuilder) → st ≡ next → rebuilderBytes st ++ drop rebuilderSize s ≡ atFront (rebuilderBytes next) s
+front s st next e = ap (λ (z : Rebuilder). rebuilderBytes z ++ drop rebuilderSize s) e ∙ ap (λ (n : ℕ). rebuilderBytes next ++ drop n s) (sym (length-rebuilder next))
 
 -- what the call on the state says, as bytes
 module _ (s string sheet question string′ question′ : List ℕ) (st : Rebuilder) (out : RebuilderOut) where
@@ -122,7 +126,7 @@ module _ (s string sheet question string′ question′ : List ℕ) (st : Rebuil
         ap askedSize b ∙ next-size m
 
     said-taken : (t : Taken) (s′ sheet′ : List ℕ) → saidRebuilder out string′ question′ ≡ leavesRebuilder st string question t
-        → s′ ≡ rebuilderBytes (out .state) → sheet′ ≡ sheetBytesAfter sheet (out .sheet)
+        → s′ ≡ rebuilderBytes (out .state) ++ drop rebuilderSize s → sheet′ ≡ sheetBytesAfter sheet (out .sheet)
         → record { result = askedSize n * 16; state = s′; string = string′; sheet = sheet′; question = question′ } ≡ rebuilderLeft s string sheet question t
     unfolding packed
     said-taken (refuses d) s′ sheet′ k g h =
@@ -134,7 +138,8 @@ module _ (s string sheet question string′ question′ : List ℕ) (st : Rebuil
         let c : out .sheet ≡ j .sheet = ap (λ (w : RebuilderSaid). w .sheet) k in
         let d : string′ ≡ stringAfter string (j .string) = ap (λ (w : RebuilderSaid). w .string) k in
         let f : question′ ≡ atFront m question = ap (λ (w : RebuilderSaid). w .question) k in
-        rw (a, g, b, h, c, d, f) refl
+        let i : s′ ≡ atFront (rebuilderBytes (j .state)) s = g ∙ front s (out .state) (j .state) b in
+        rw (a, i, h, c, d, f) refl
 
     said-small : (t : Taken) → saidRebuilder out string′ question′ ≡ leavesRebuilder st string question t
         → ((j : Step) (m : List ℕ) → t ≡ takes j m → length m ≤ 16) → askedSize n ≤ 16
@@ -157,7 +162,7 @@ pub record RebuilderCalled : Type 0 where
   pub st : Rebuilder
   pub out : RebuilderOut
   pub rule : stringRule y bits ≡ true
-  pub whole : length s ≡ 564
+  pub whole : rebuilderSize ≤ length s
   pub read : st ≡ rebuilderOf s
   pub said : saidRebuilder out string′ question′ ≡ leavesRebuilder st string question (rebuilderCall st y bits msg (roomsIn string sheet question))
 
@@ -172,7 +177,7 @@ module _ (k : RebuilderCalled) where
   abbrev heard : Taken
   heard = rebuilderCall (k .st) (k .y) (k .bits) (k .msg) rooms
 
-  pub call-rows : 12 * rowsNeeded (k .out .sheet) ≤ length (k .sheet)
+  pub call-rows : rowSize * rowsNeeded (k .out .sheet) ≤ length (k .sheet)
   call-rows =
       let r = change-fits (k .st) (k .y) (k .bits) (k .msg) rooms (k .string) (k .question) (k .string′) (k .question′) (k .out) (k .said) in
       omega arith
@@ -191,12 +196,10 @@ module _ (k : RebuilderCalled) where
         said-small (k .s) (k .string) (k .sheet) (k .question) (k .string′) (k .question′) (k .st) (k .out) n a heard (k .said)
         (taken-small (k .st) (k .y) (k .bits) (k .msg) rooms)
 
-    pub call-taken : {r : ℕ} {s′ sheet′ : List ℕ} → r ≡ askedSize n * 16 → s′ ≡ rebuilderBytes (k .out .state) ++ drop 564 (k .s) → sheet′ ≡ sheetBytesAfter (k .sheet) (k .out .sheet)
+    pub call-taken : {r : ℕ} {s′ sheet′ : List ℕ} → r ≡ askedSize n * 16 → s′ ≡ rebuilderBytes (k .out .state) ++ drop rebuilderSize (k .s) → sheet′ ≡ sheetBytesAfter (k .sheet) (k .out .sheet)
         → record { result = r; state = s′; string = k .string′; sheet = sheet′; question = k .question′ } ≡ calledLeaves
     call-taken {r} {s′} {sheet′} h i j =
-        let w = k .whole in
-        let all : s′ ≡ rebuilderBytes (k .out .state) = rw i (rw (drop-of-length-le (k .s) {i = 564} (omega arith)) (append-nil (rebuilderBytes (k .out .state)))) in
-        (rw h (said-taken (k .s) (k .string) (k .sheet) (k .question) (k .string′) (k .question′) (k .st) (k .out) n a heard s′ sheet′ (k .said) all j)) ∙ called
+        (rw h (said-taken (k .s) (k .string) (k .sheet) (k .question) (k .string′) (k .question′) (k .st) (k .out) n a heard s′ sheet′ (k .said) i j)) ∙ called
 
 -- ---- the returns of the start
 module _ (S : Settings) (y : List ℕ) (bits : ℕ) (s question : List ℕ) where
@@ -211,14 +214,14 @@ module _ (S : Settings) (y : List ℕ) (bits : ℕ) (s question : List ℕ) wher
   start-bad-string e f = rw (e, f) refl
 
   module _ (e : withinLimits S ≡ true) (f : stringRule y bits ≡ true) where
-    pub start-short : length s < 564
+    pub start-short : length s < rebuilderSize
         → record { result = 9; state = s; question = question } ≡ startLeft s question (startOnBytes S y bits (length s) (length question))
     unfolding startOnBytes packed
-    start-short h = rw (e, f, lt-leb 564 (length s) h) refl
+    start-short h = rw (e, f, lt-leb rebuilderSize (length s) h) refl
 
-    started : 564 ≤ length s → startOnBytes S y bits (length s) (length question) ≡ rebuilderStart S y bits (length question)
+    started : rebuilderSize ≤ length s → startOnBytes S y bits (length s) (length question) ≡ rebuilderStart S y bits (length question)
     unfolding startOnBytes
-    started h = rw (e, f, le-leb 564 (length s) h) refl
+    started h = rw (e, f, le-leb rebuilderSize (length s) h) refl
 
 module _ (s question question′ : List ℕ) (out : StartOut) where
   start-declines : (t : Started) (e : Refusal) → saidStart out question′ ≡ leavesStart question t → out .answer ≡ NotBegun e
@@ -235,7 +238,7 @@ module _ (s question question′ : List ℕ) (out : StartOut) where
       let z : _≡_ {A = ℕ} 0 1 = cc in absurd (omega arith)
 
   start-begins : (t : Started) (size : ℕ) (s′ : List ℕ) → saidStart out question′ ≡ leavesStart question t → out .answer ≡ Begun size
-      → s′ ≡ rebuilderBytes (out .state) ++ drop 564 s
+      → s′ ≡ rebuilderBytes (out .state) ++ drop rebuilderSize s
       → record { result = size * 16; state = s′; question = question′ } ≡ startLeft s question t
   unfolding packed
   start-begins (startDeclines d) size s′ k f g =
@@ -248,8 +251,7 @@ module _ (s question question′ : List ℕ) (out : StartOut) where
       let b : size ≡ length m = cc in
       let c : out .state ≡ st = ap (λ (w : StartSaid). w .state) k in
       let d : question′ ≡ atFront m question = ap (λ (w : StartSaid). w .question) k in
-      let h : s′ ≡ atFront (rebuilderBytes st) s
-      = g ∙ ap (λ (z : Rebuilder). rebuilderBytes z ++ drop 564 s) c ∙ ap (λ (n : ℕ). rebuilderBytes st ++ drop n s) (sym (length-rebuilder st)) in
+      let h : s′ ≡ atFront (rebuilderBytes st) s = g ∙ front s (out .state) st c in
       rw (b, h, d) refl
 
   start-size : (t : Started) (size : ℕ) → saidStart out question′ ≡ leavesStart question t → out .answer ≡ Begun size
@@ -277,7 +279,7 @@ pub record StartCalled : Type 0 where
   pub same : given ≡ S
   pub limits : withinLimits S ≡ true
   pub rule : stringRule y bits ≡ true
-  pub room : 564 ≤ length s
+  pub room : rebuilderSize ≤ length s
   pub said : saidStart out question′ ≡ leavesStart question (rebuilderStart given y bits (length question))
 
 module _ (k : StartCalled) where
@@ -302,6 +304,6 @@ module _ (k : StartCalled) where
   pub start-declined : {d : Refusal} {r : ℕ} → k .out .answer ≡ NotBegun d → r ≡ packed (refusal (refusalNumber d)) → record { result = r; state = k .s; question = k .question′ } ≡ startLeaves
   start-declined {d} a i = (rw i (start-declines (k .s) (k .question) (k .question′) (k .out) began d said-began a)) ∙ began-leaves
 
-  pub start-begun : {size : ℕ} {s′ : List ℕ} → k .out .answer ≡ Begun size → s′ ≡ rebuilderBytes (k .out .state) ++ drop 564 (k .s)
+  pub start-begun : {size : ℕ} {s′ : List ℕ} → k .out .answer ≡ Begun size → s′ ≡ rebuilderBytes (k .out .state) ++ drop rebuilderSize (k .s)
       → record { result = size * 16; state = s′; question = k .question′ } ≡ startLeaves
   start-begun {size} {s′} a i = start-begins (k .s) (k .question) (k .question′) (k .out) began size s′ said-began a i ∙ began-leaves

@@ -13,13 +13,13 @@ use Rattle.ends.specs.declared.Piece.{Piece}
 use Rattle.ends.specs.declared.Rebuilder.{Rebuilder}
 use Rattle.ends.specs.States.{noPiece}
 use Rattle.layout.specs.Bytes32.{bytesOf, wordAt}
-use Rattle.layout.specs.Layout.{allBytes, holderBytes, holderOf, pieceBytes, pieceAt, piecesBytes, piecesAt, fieldBytes, rebuilderBytes, fieldsOf, rebuilderOf}
+use Rattle.layout.specs.Layout.{allBytes, holderSize, holderBytes, holderOf, pieceBytes, pieceAt, piecesBytes, piecesAt, rebuilderSize, fieldBytes, rebuilderBytes, fieldsOf, rebuilderOf}
 use Rattle.strings.specs.laws.StoreLaws.{sets-append, sets-front}
 use Rattle.strings.specs.laws.PackLaws.{Bytes}
 use Rattle.layout.specs.laws.Bytes32Laws.{digits, number-behind, number-below}
 
 -- ---- lengths
-pub length-holder : (st : Holder) → length (holderBytes st) ≡ 20
+pub length-holder : (st : Holder) → length (holderBytes st) ≡ holderSize
 unfolding holderBytes allBytes bytesOf
 length-holder st = refl
 
@@ -40,7 +40,7 @@ pub length-fields : (st : Rebuilder) → length (fieldBytes st) ≡ 52
 unfolding fieldBytes allBytes bytesOf
 length-fields st = refl
 
-pub length-rebuilder : (st : Rebuilder) → length (rebuilderBytes st) ≡ 564
+pub length-rebuilder : (st : Rebuilder) → length (rebuilderBytes st) ≡ rebuilderSize
 unfolding rebuilderBytes
 length-rebuilder st =
     let a = length-append (fieldBytes st) (piecesBytes (st .pieces) 0 32) in
@@ -270,16 +270,16 @@ unfolding piecesAt
 read-end st s u i h f = let k : 0 ≡ 32 - i = omega arith in ap (λ (n : ℕ). withPieces st (sets (st .pieces) i (piecesAt s (52 + 16 * i) n))) k ∙ f
 
 -- ---- whole states at the front of the bytes
-pub holder-front : (s : List ℕ) (st : Holder) → 20 ≤ length s → sets s 0 (holderBytes st) ≡ holderBytes st ++ drop 20 s
+pub holder-front : (s : List ℕ) (st : Holder) → holderSize ≤ length s → sets s 0 (holderBytes st) ≡ holderBytes st ++ drop holderSize s
 holder-front s st h =
     sets-front s (holderBytes st) (let e = length-holder st in omega arith) ∙ ap (λ (n : ℕ). holderBytes st ++ drop n s) (length-holder st)
 
-pub rebuilder-front : (s : List ℕ) (st : Rebuilder) → 564 ≤ length s → sets s 0 (rebuilderBytes st) ≡ rebuilderBytes st ++ drop 564 s
+pub rebuilder-front : (s : List ℕ) (st : Rebuilder) → rebuilderSize ≤ length s → sets s 0 (rebuilderBytes st) ≡ rebuilderBytes st ++ drop rebuilderSize s
 rebuilder-front s st h =
     sets-front s (rebuilderBytes st) (let e = length-rebuilder st in omega arith) ∙ ap (λ (n : ℕ). rebuilderBytes st ++ drop n s) (length-rebuilder st)
 
-pub holder-stored : (s t u : List ℕ) (st : Holder) → 20 ≤ length s → t ≡ sets s 0 (allBytes (st .opened ∷ st .bits ∷ st .h ∷ st .key ∷ []))
-    → u ≡ sets t 16 (bytesOf (st .answers)) → u ≡ holderBytes st ++ drop 20 s
+pub holder-stored : (s t u : List ℕ) (st : Holder) → holderSize ≤ length s → t ≡ sets s 0 (allBytes (st .opened ∷ st .bits ∷ st .h ∷ st .key ∷ []))
+    → u ≡ sets t 16 (bytesOf (st .answers)) → u ≡ holderBytes st ++ drop holderSize s
 unfolding holderBytes allBytes bytesOf
 holder-stored s t u st h e f =
     store-next s t u 0 16 (allBytes (st .opened ∷ st .bits ∷ st .h ∷ st .key ∷ [])) (bytesOf (st .answers)) e f refl ∙ holder-front s st h
@@ -299,8 +299,8 @@ fields-stored s t u v w st e f g h =
     (store-next s u v 0 32 (a ++ b) c (store-next s t u 0 16 a b e f refl) g refl)
     h refl
 
-pub rebuilder-stored : (s t u : List ℕ) (st : Rebuilder) → 564 ≤ length s → t ≡ sets s 0 (fieldBytes st) → u ≡ sets t 52 (piecesBytes (st .pieces) 0 32)
-    → u ≡ rebuilderBytes st ++ drop 564 s
+pub rebuilder-stored : (s t u : List ℕ) (st : Rebuilder) → rebuilderSize ≤ length s → t ≡ sets s 0 (fieldBytes st) → u ≡ sets t 52 (piecesBytes (st .pieces) 0 32)
+    → u ≡ rebuilderBytes st ++ drop rebuilderSize s
 unfolding rebuilderBytes
 rebuilder-stored s t u st h e f =
     store-next s t u 0 52 (fieldBytes st) (piecesBytes (st .pieces) 0 32) e f (let l = length-fields st in omega arith) ∙ rebuilder-front s st h

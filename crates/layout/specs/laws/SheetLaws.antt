@@ -13,14 +13,14 @@ use Rattle.ends.specs.declared.SheetChange.the-variants.{NoRow, AddRow, OneRow}
 use Rattle.ends.specs.RebuilderCall.{noRow, sheetAfter, rowsNeeded}
 use Rattle.layout.specs.Bytes32.{bytesOf, wordAt}
 use Rattle.layout.specs.Layout.{allBytes}
-use Rattle.layout.specs.Sheet.{rowBytes, rowsBytes, rowAt, rowsAt, rowsIn, sheetBytesAfter}
+use Rattle.layout.specs.Sheet.{rowSize, rowBytes, rowsBytes, rowAt, rowsAt, rowsIn, sheetBytesAfter}
 use Rattle.strings.specs.laws.StoreLaws.{sets-append}
 use Rattle.strings.specs.laws.PackLaws.{cleared-sets}
 use Rattle.layout.specs.laws.Bytes32Laws.{digits, number-before, number-after, number-in}
 use Rattle.layout.specs.laws.LayoutLaws.{store-next}
 
 -- ---- lengths
-pub length-row : (r : Row) → length (rowBytes r) ≡ 12
+pub length-row : (r : Row) → length (rowBytes r) ≡ rowSize
 unfolding rowBytes allBytes bytesOf
 length-row r = refl
 
