@@ -7,8 +7,17 @@
  * Strings. Each has 0 to LO_MAX_BITS bits in exactly ceil(bits/8) bytes, first bit in the most
  * significant place, spare bits zero.
  *
- * Slices. Each is a pointer, then its length in bytes. A written slice overlaps no other. The
- * library keeps no pointer after it returned and allocates nothing.
+ * Slices. Each is a pointer, then its length in bytes. (NULL, 0) is an empty slice. No alignment
+ * is needed. A written slice overlaps no other. The library keeps no pointer after it returned and
+ * allocates nothing.
+ *
+ * States. The buffer has at least LO_HOLDER_BYTES or LO_REBUILDER_BYTES bytes. Each function reads
+ * and writes the first LO_HOLDER_BYTES or LO_REBUILDER_BYTES of them and leaves later bytes as they
+ * were. A shorter buffer gets 9 from lo_holder_fresh and lo_rebuilder_start, which make a state,
+ * and 3 from the two calls.
+ *
+ * Threads. The library has no global state. Calls on different states may run at the same time;
+ * slices that are only read (X, Y, messages) may be lent to several of them.
  *
  * Results. Each is value * 16 + refusal: LO_REFUSAL(r) is 0 where the call was not turned down,
  * and LO_VALUE(r) is then the answer. Otherwise LO_REFUSAL(r) is 1 to 9, and the call changed
@@ -28,27 +37,27 @@ extern "C" {
 #define LO_REFUSAL(result) ((unsigned)((result) & 15))
 
 /* Refusals */
-#define LO_BAD_SETTING 1          /* a setting handed in is outside its limits */
+#define LO_BAD_SETTING 1      /* a setting handed in is outside its limits */
 #define LO_BAD_STRING 2       /* a string breaks the string rule, or has another bit count than at
                                  opening */
 #define LO_OUT_OF_TURN 3      /* finished; answers spent; an opening wanted, or not wanted; or the
-                                 state is unsound or of another length */
-#define LO_TRUNCATED 4     /* the message ends inside its kind, a field or its bits */
+                                 state is unsound or its buffer too short for a state */
+#define LO_TRUNCATED 4        /* the message ends inside its kind, a field or its bits */
 #define LO_BAD_NUMBER 5       /* a number with a zero last byte after another byte, or a fifth byte
                                  above 0x0f */
-#define LO_BAD_KIND 6       /* the kind is unknown, or not the one that a rebuilder awaits */
-#define LO_TRAILING_BYTES 7     /* bytes follow the last field or its bits */
+#define LO_BAD_KIND 6         /* the kind is unknown, or not the one that a rebuilder awaits */
+#define LO_TRAILING_BYTES 7   /* bytes follow the last field or its bits */
 #define LO_OUT_OF_RANGE 8     /* a value is outside its range */
 #define LO_BUFFER_TOO_SHORT 9 /* a lent buffer or sheet is too short */
 
 /* Sizes */
 #define LO_MAX_BITS 65536
-#define LO_HOLDER_BYTES 20    /* a holder's state */
+#define LO_HOLDER_BYTES 20     /* a holder's state */
 #define LO_REBUILDER_BYTES 564 /* a rebuilder's state */
-#define LO_ROW_BYTES 12       /* a row of the sheet */
-#define LO_QUESTION_BYTES 8   /* each question buffer, at least */
-#define LO_REPLY_BYTES 8193   /* the longest reply; none on n bits is longer than 9 and
-                                 1 + ceil(n/8) */
+#define LO_ROW_BYTES 12        /* a row of the sheet */
+#define LO_QUESTION_BYTES 8    /* each question buffer, at least */
+#define LO_REPLY_BYTES 8193    /* the longest reply; no reply on n bits is longer than the larger of
+                                  9 and 1 + ceil(n/8) bytes */
 #define LO_STRING_BYTES(n) (((n) + 7) / 8)
 #define LO_SHEET_ROWS(n, m) (2 * ((n) / (m)) + 1)
 #define LO_SHEET_BYTES(n, m) (LO_ROW_BYTES * LO_SHEET_ROWS(n, m))
@@ -63,11 +72,11 @@ extern "C" {
 /* Layouts: 32-bit numbers, little-endian, at these offsets. Only the library writes a state.
  *
  * Holder: */
-#define LO_HOLDER_OPENED 0    /* 0 or 1 */
-#define LO_HOLDER_BITS 4      /* bits of X at opening */
+#define LO_HOLDER_OPENED 0   /* 0 or 1 */
+#define LO_HOLDER_BITS 4     /* bits of X at opening */
 #define LO_HOLDER_H 8
 #define LO_HOLDER_KEY 12
-#define LO_HOLDER_ANSWERS 16  /* answers given, the opening's among them */
+#define LO_HOLDER_ANSWERS 16 /* answers given, the opening's among them */
 
 /* Rebuilder: */
 #define LO_REBUILDER_M 0
@@ -82,7 +91,7 @@ extern "C" {
 #define LO_REBUILDER_COUNTED 36  /* bytes of the answers, the opening's not counted */
 #define LO_REBUILDER_ROWS 40     /* rows in use */
 #define LO_REBUILDER_STAGE 44    /* leftmost piece: 0 hash or syndrome asked, 1 to 3 an anchor,
-                                    4 all its bits */
+                                    4 all its bits; in phase 2 as the last answer left it */
 #define LO_REBUILDER_WAITING 48  /* waiting pieces */
 #define LO_REBUILDER_PIECES 52   /* 32 pieces of x, p, y, q, the leftmost waiting one last; unused
                                     ones zero */
@@ -90,7 +99,7 @@ extern "C" {
 /* Row: */
 #define LO_ROW_START 0
 #define LO_ROW_LENGTH 4
-#define LO_ROW_HOW 8             /* one of: */
+#define LO_ROW_HOW 8 /* one of: */
 #define LO_HOW_HASH 1
 #define LO_HOW_PUT_IN 2
 #define LO_HOW_TAKE_OUT 3
@@ -113,8 +122,10 @@ uint64_t lo_hash(const uint8_t *s, size_t s_len, size_t bits, uint32_t h, uint32
 uint64_t lo_repair(const uint8_t *s, size_t s_len, size_t bits, size_t n, size_t a,
                    uint8_t *out, size_t out_len);
 
-/* Where the anchor a of m bits, from offset s of a piece of p bits, is placed in the piece's copy,
- * the q bits of y from start on. Value r + 1 for the place r, counted from start; 0 for no place.
+/* Where the anchor a of m bits, at offset s of a piece of p bits, is placed in the piece's copy,
+ * the q bits of y from start on: at r, counted from start, 0 to q - m, where the copy's m bits
+ * equal a and |2r - (2s + q - p)| <= 2 * k * floor(sqrt(q)). The smallest such distance wins, on a
+ * tie the smaller r. Value r + 1, or 0 for no place.
  * Refusals 1 (m not 8 to 64, k not 1 to 8); 2 (y of `bits` bits or a of m bits breaks the string
  * rule); 8 (start + q above bits, p above LO_MAX_BITS, s + m above p). */
 uint64_t lo_anchor(const uint8_t *y, size_t y_len, size_t bits, size_t start, size_t q, size_t p,
@@ -125,11 +136,11 @@ uint64_t lo_anchor(const uint8_t *y, size_t y_len, size_t bits, size_t start, si
 uint64_t lo_holder_fresh(uint8_t *state, size_t state_len);
 
 /* The holder's call: answers the question msg on X. Value: the reply's length; the reply is in the
- * first bytes of reply, later bytes are as they were, and state (of exactly LO_HOLDER_BYTES bytes)
- * holds the next state.
- * Refusals 2; 3 (state unsound or of another length, answers spent); then as the message is read
- * from left to right 4, 5, 6, or 3 for a known kind out of turn; 7; 8; 9 (reply shorter than the
- * reply). */
+ * first bytes of reply, later bytes are as they were, and the first LO_HOLDER_BYTES bytes of state
+ * hold the next state.
+ * Refusals 2; 3 (state unsound or shorter than LO_HOLDER_BYTES, answers spent); then as the message
+ * is read from left to right 4, 5, 6, or 3 for a known kind out of turn; 7; 8; 9 (reply_len below
+ * the reply's length). */
 uint64_t lo_holder_answer(uint8_t *state, size_t state_len,
                           const uint8_t *x, size_t x_len, size_t bits,
                           const uint8_t *msg, size_t msg_len,
@@ -148,13 +159,16 @@ uint64_t lo_rebuilder_start(uint32_t m, uint32_t h, uint32_t k, uint32_t key, ui
 /* The rebuilder's call: takes the answer msg to the question that waits. Value: the next
  * question's length, or 0 when finished: the first ceil(n/8) bytes of string are then the rebuilt
  * string (X, but for pieces whose hash agreed on other bits), and the rows in use cover each bit of
- * X once. Lend the same y, string and sheet, unaltered, in each call
- * from the opening's answer on. The opening's answer zeroes the first ceil(n/8) bytes of string.
- * Unused rows, and bytes behind the string and the question, are as they were. state is of exactly
- * LO_REBUILDER_BYTES bytes. sheet_len counts bytes; a rest below LO_ROW_BYTES is no row.
- * Refusals 2; 3 (state unsound or of another length, finished); then as the message is read from
- * left to right 4, 5, 6; 7; 8; 9 (question shorter than LO_QUESTION_BYTES, string shorter than
- * LO_STRING_BYTES(n), sheet of fewer than LO_SHEET_ROWS(n, m) rows). */
+ * X once. The first LO_REBUILDER_BYTES bytes of state hold the next state. Unused rows, and bytes
+ * behind the string and the question, are as they were.
+ * Lend the start's y in each call, and the same string and sheet, unaltered, in each call from the
+ * one with the opening's answer on, which zeroes the first ceil(n/8) bytes of string. Before it n
+ * is not known: make string and sheet for LO_MAX_BITS bits, or enlarge them on refusal 9 and call
+ * again with the same message, since a refused call changed nothing. sheet_len counts bytes; a rest
+ * below LO_ROW_BYTES is no row.
+ * Refusals 2; 3 (state unsound or shorter than LO_REBUILDER_BYTES, finished); then as the message
+ * is read from left to right 4, 5, 6; 7; 8; 9 (question shorter than LO_QUESTION_BYTES, string
+ * shorter than LO_STRING_BYTES(n), sheet of fewer than LO_SHEET_ROWS(n, m) rows). */
 uint64_t lo_rebuilder_call(uint8_t *state, size_t state_len,
                            const uint8_t *y, size_t y_len, size_t bits,
                            uint8_t *string, size_t string_len,

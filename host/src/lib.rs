@@ -35,8 +35,10 @@ mod bit_string;
 #[cfg(not(feature = "model-only"))]
 #[allow(unsafe_code)]
 mod ffi;
+pub mod layout;
 pub mod model;
 mod refusal;
+mod saved;
 mod synchroniser;
 
 use std::ops::Range;
@@ -47,13 +49,14 @@ pub use ffi::Library;
 #[cfg(feature = "model-only")]
 pub use model::Model as Library;
 pub use refusal::Refusal;
-pub use synchroniser::{Holder, How, Rebuilder, Row, Saved, Settings, Sheet};
+pub use saved::{ResumeError, Saved};
+pub use synchroniser::{Holder, How, Rebuilder, Row, Settings, Sheet};
 
 /// The most bits that a string has.
 pub const MAX_BITS: usize = 65_536;
-/// Bytes of a holder's state.
+/// Bytes of a holder's state; its buffer may be longer.
 pub const HOLDER_BYTES: usize = 20;
-/// Bytes of a rebuilder's state.
+/// Bytes of a rebuilder's state; its buffer may be longer.
 pub const REBUILDER_BYTES: usize = 564;
 /// Bytes of a row in the sheet.
 pub const ROW_BYTES: usize = 12;
@@ -69,6 +72,18 @@ pub const fn sheet_rows(n: usize, m: usize) -> usize {
 
 /// The C interface on slices. Results are packed, see [`pack`] and [`unpack`]. On a refusal
 /// nothing is written.
+///
+/// A state's buffer has at least [`HOLDER_BYTES`] or [`REBUILDER_BYTES`] bytes: the functions read
+/// and write so many of its first bytes and leave later ones alone. A shorter buffer gets 9 where a
+/// state is made and 3 in the two calls. Fields are read from a state's bytes at the offsets in
+/// [`layout`].
+///
+/// A rebuilder's `string` and `sheet` are needed from the call with the opening's answer on, for
+/// the reference's n bits: `n.div_ceil(8)` bytes and [`sheet_rows`] rows of [`ROW_BYTES`] bytes.
+/// Before it n is not known: a host makes both for [`MAX_BITS`], or enlarges them on refusal 9 and
+/// calls again with the same message.
+///
+/// The library has no global state: calls on different states may run at the same time.
 #[allow(clippy::too_many_arguments)]
 pub trait Ends {
     /// The syndrome. Refusal 2.
@@ -83,6 +98,7 @@ pub trait Ends {
 
     /// Where the anchor `a` of `m` bits, at offset `s` of a piece of `p` bits, is placed in the
     /// `q` bits of `y` from `start` on: place + 1, or 0 for no place. Refusals 1, 2, 8.
+    /// [`find_anchor`] has the rule.
     fn anchor(
         y: &[u8],
         bits: usize,
@@ -95,7 +111,7 @@ pub trait Ends {
         a: &[u8],
     ) -> u64;
 
-    /// Writes a fresh holder's state. Refusal 9.
+    /// Writes a fresh holder's state to the first [`HOLDER_BYTES`] bytes. Refusal 9.
     fn holder_fresh(state: &mut [u8]) -> u64;
 
     /// The holder's call: the reply's length. Refusals 2 to 9.
@@ -107,7 +123,8 @@ pub trait Ends {
         reply: &mut [u8],
     ) -> u64;
 
-    /// The rebuilder's start: the question's length. Refusals 1, 2, 9.
+    /// The rebuilder's start: the question's length. The state is in the first
+    /// [`REBUILDER_BYTES`] bytes. Refusals 1, 2, 9.
     fn rebuilder_start(
         m: u32,
         h: u32,
@@ -191,6 +208,14 @@ pub fn repair(s: &BitString, n: usize, a: usize) -> Result<Option<BitString>, Re
 /// start, or `None`. The anchor stands at `offset` in a piece of `p` bits; `k` is the window
 /// factor.
 ///
+/// With q bits in the range and m in the anchor, it is placed at r, 0 to q - m, where the bits equal
+/// it and |2r - (2·offset + q - p)| ≤ 2·k·floor(sqrt(q)). The smallest such distance wins, on a tie
+/// the smaller r.
+///
+/// Refusals, in this order: 1 for an anchor of other than 8 to 64 bits or a `k` of other than 1 to
+/// 8; 8 for a range that is reversed or ends past `y`, a `p` above [`MAX_BITS`], or an anchor that
+/// ends past `p`.
+///
 /// ```
 /// use lunetteorris::find_anchor;
 ///
@@ -208,10 +233,12 @@ pub fn find_anchor(
     k: u32,
     anchor: &BitString,
 ) -> Result<Option<usize>, Refusal> {
+    // A reversed range becomes one that ends past every string: the library looks at the settings
+    // first and refuses it in its turn.
     let q = within
         .end
         .checked_sub(within.start)
-        .ok_or(Refusal::OutOfRange)?;
+        .unwrap_or(usize::MAX - within.start);
     let place = unpack(Library::anchor(
         y.as_bytes(),
         y.bits(),

@@ -351,10 +351,9 @@ impl Writer {
 
 // States as bytes: 32-bit numbers, little-endian, one after the other
 
+/// The numbers in the first 4 * N bytes, if there are so many.
 fn read_words<const N: usize>(bytes: &[u8]) -> Option<[u32; N]> {
-    if bytes.len() != 4 * N {
-        return None;
-    }
+    let bytes = bytes.get(..4 * N)?;
     let mut words = [0; N];
     for (word, bytes) in words.iter_mut().zip(bytes.chunks_exact(4)) {
         *word = u32::from_le_bytes(bytes.try_into().unwrap());
@@ -362,6 +361,7 @@ fn read_words<const N: usize>(bytes: &[u8]) -> Option<[u32; N]> {
     Some(words)
 }
 
+/// Writes the numbers to the first bytes; later bytes stay.
 fn write_words(words: &[u32], bytes: &mut [u8]) {
     for (word, bytes) in words.iter().zip(bytes.chunks_exact_mut(4)) {
         bytes.copy_from_slice(&word.to_le_bytes());
@@ -421,7 +421,7 @@ impl HolderState {
     }
 }
 
-/// Whether these bytes are a sound state of a holder.
+/// Whether the first [`HOLDER_BYTES`] bytes are a sound state of a holder.
 pub fn holder_sound(state: &[u8]) -> bool {
     HolderState::read(state).is_some_and(|state| state.sound())
 }
@@ -940,7 +940,7 @@ impl RebuilderState {
     }
 }
 
-/// Whether these bytes are a sound state of a rebuilder.
+/// Whether the first [`REBUILDER_BYTES`] bytes are a sound state of a rebuilder.
 pub fn rebuilder_sound(state: &[u8]) -> bool {
     RebuilderState::read(state).is_some_and(|state| state.sound())
 }
@@ -973,7 +973,7 @@ fn rebuilder_start(
         waiting: 0,
         pieces: [Piece::default(); MAX_WAITING],
     };
-    state.write(&mut state_bytes[..REBUILDER_BYTES]);
+    state.write(state_bytes);
     Writer::new(&[OPEN, 1, settings.h, settings.key]).write_to(question)
 }
 
@@ -1109,13 +1109,11 @@ impl Ends for Model {
     }
 
     fn holder_fresh(state: &mut [u8]) -> u64 {
-        match state.get_mut(..HOLDER_BYTES) {
-            Some(state) => {
-                HolderState::FRESH.write(state);
-                pack(Ok(0))
-            }
-            None => pack(Err(Refusal::BufferTooShort)),
+        if state.len() < HOLDER_BYTES {
+            return pack(Err(Refusal::BufferTooShort));
         }
+        HolderState::FRESH.write(state);
+        pack(Ok(0))
     }
 
     fn holder_answer(

@@ -2,9 +2,13 @@
 
 use std::fmt;
 
+use crate::layout::{
+    field, HOLDER_ANSWERS, REBUILDER_ANSWERED, REBUILDER_COUNTED, REBUILDER_M, REBUILDER_N,
+    REBUILDER_PHASE, REBUILDER_ROWS, REBUILDER_WAITING, ROW_HOW, ROW_LENGTH, ROW_START,
+};
 use crate::{
-    sheet_rows, unpack, BitString, Ends, Library, Refusal, HOLDER_BYTES, MAX_BITS, QUESTION_BYTES,
-    REBUILDER_BYTES, REPLY_BYTES, ROW_BYTES,
+    sheet_rows, unpack, BitString, Ends, Library, Refusal, ResumeError, Saved, HOLDER_BYTES,
+    MAX_BITS, QUESTION_BYTES, REBUILDER_BYTES, REPLY_BYTES, ROW_BYTES,
 };
 
 /// A rebuilder's settings. [`Rebuilder::start`] refuses values outside their limits.
@@ -95,7 +99,7 @@ impl Holder {
 
     /// The answers given, the opening's among them.
     pub fn answers(&self) -> u32 {
-        field(&self.state, 16)
+        field(&self.state, HOLDER_ANSWERS)
     }
 
     /// The reference.
@@ -118,19 +122,6 @@ impl fmt::Debug for Holder {
     }
 }
 
-/// What a host keeps of a [`Rebuilder`], beside the copy, to go on with its run later.
-#[derive(Clone, Debug, PartialEq, Eq)]
-pub struct Saved {
-    /// The state's bytes.
-    pub state: [u8; REBUILDER_BYTES],
-    /// The string's bytes as far as it is rebuilt.
-    pub string: Vec<u8>,
-    /// The sheet's bytes.
-    pub sheet: Vec<u8>,
-    /// The question that waits; empty when finished.
-    pub question: Vec<u8>,
-}
-
 /// The end that has the copy Y and rebuilds X.
 #[derive(Clone, PartialEq, Eq)]
 pub struct Rebuilder {
@@ -138,8 +129,9 @@ pub struct Rebuilder {
     state: [u8; REBUILDER_BYTES],
     string: Vec<u8>,
     sheet: Vec<u8>,
+    /// The waiting question, zeros behind it.
     question: [u8; QUESTION_BYTES],
-    /// Length of the waiting question, 0 when finished.
+    /// Its length, 0 when finished.
     question_length: usize,
 }
 
@@ -185,7 +177,7 @@ impl Rebuilder {
     /// let mut rebuilder = Rebuilder::resume(y, saved)?;
     /// rebuilder.take(&holder.answer(rebuilder.question().unwrap())?)?;
     /// assert_eq!(rebuilder.string().to_string(), "10110");
-    /// # Ok::<(), lunetteorris::Refusal>(())
+    /// # Ok::<(), Box<dyn std::error::Error>>(())
     /// ```
     pub fn save(&self) -> Saved {
         Saved {
@@ -196,33 +188,49 @@ impl Rebuilder {
         }
     }
 
-    /// Goes on with a saved run of `y`. Refusals of what was not saved so: 2 for a string that
-    /// breaks the string rule, 8 for a question or a row that no run has, 9 for a string or sheet
-    /// shorter than the state says. An unsound state, and a `y` of another bit count, are found by
-    /// the next call.
-    pub fn resume(y: BitString, saved: Saved) -> Result<Rebuilder, Refusal> {
-        let question_length = saved.question.len();
+    /// Goes on with a saved run of `y`. The library is asked whether it goes on from this state with
+    /// this copy; string, sheet and question are held to what the state needs. An error says that
+    /// `saved` is damaged or belongs to another run. Damage to the bytes of the question, to settled
+    /// bits, or to the counts of a finished state is not seen: a host that fears it keeps a checksum.
+    pub fn resume(y: BitString, saved: Saved) -> Result<Rebuilder, ResumeError> {
+        let Saved {
+            mut state,
+            string,
+            sheet,
+            question: waiting,
+        } = saved;
+        let finished = field(&state, REBUILDER_PHASE) == 1 && field(&state, REBUILDER_WAITING) == 0;
         let mut question = [0; QUESTION_BYTES];
-        question
-            .get_mut(..question_length)
-            .ok_or(Refusal::OutOfRange)?
-            .copy_from_slice(&saved.question);
-        let bits = field(&saved.state, 28) as usize;
-        let string = saved.string.get(..bits.div_ceil(8));
-        BitString::from_bytes(string.ok_or(Refusal::BufferTooShort)?.to_vec(), bits)?;
-        let rows = field(&saved.state, 40) as usize;
-        let used = saved.sheet.get(..rows.saturating_mul(ROW_BYTES));
-        let mut used = used.ok_or(Refusal::BufferTooShort)?.chunks(ROW_BYTES);
-        if used.any(|row| How::from_number(field(row, 8)).is_none()) {
-            return Err(Refusal::OutOfRange);
+        // An empty message ends inside its kind. A refusal before that one is the state's or Y's; a
+        // finished state is out of turn.
+        match unpack(Library::rebuilder_call(
+            &mut state,
+            y.as_bytes(),
+            y.bits(),
+            &mut [],
+            &mut [],
+            &[],
+            &mut question,
+        )) {
+            Err(Refusal::Truncated) => {}
+            Err(Refusal::OutOfTurn) if finished => {}
+            Err(refusal) => return Err(ResumeError::Refused(refusal)),
+            Ok(_) => unreachable!("an empty message is refused"),
         }
+        let bytes = waiting.len();
+        if finished != waiting.is_empty() || bytes > QUESTION_BYTES {
+            return Err(ResumeError::Question { bytes, finished });
+        }
+        question[..bytes].copy_from_slice(&waiting);
+        check_string(&state, &string)?;
+        check_sheet(&state, &sheet, finished)?;
         Ok(Rebuilder {
             y,
-            state: saved.state,
-            string: saved.string,
-            sheet: saved.sheet,
+            state,
+            string,
+            sheet,
             question,
-            question_length,
+            question_length: bytes,
         })
     }
 
@@ -235,6 +243,7 @@ impl Rebuilder {
     /// question still waits.
     pub fn take(&mut self, answer: &[u8]) -> Result<(), Refusal> {
         let opening = self.answered() == 0;
+        let mut question = [0; QUESTION_BYTES];
         let length = unpack(Library::rebuilder_call(
             &mut self.state,
             self.y.as_bytes(),
@@ -242,12 +251,13 @@ impl Rebuilder {
             &mut self.string,
             &mut self.sheet,
             answer,
-            &mut self.question,
+            &mut question,
         ))?;
+        self.question = question;
         self.question_length = length as usize;
         if opening {
             let n = self.bits();
-            let m = field(&self.state, 0) as usize;
+            let m = field(&self.state, REBUILDER_M) as usize;
             self.string.truncate(n.div_ceil(8));
             self.string.shrink_to_fit();
             self.sheet.truncate(ROW_BYTES * sheet_rows(n, m));
@@ -263,7 +273,7 @@ impl Rebuilder {
 
     /// X's bit count, 0 before the opening's answer.
     fn bits(&self) -> usize {
-        field(&self.state, 28) as usize
+        field(&self.state, REBUILDER_N) as usize
     }
 
     /// The string as far as it is rebuilt: unsettled bits are zero. Before the opening's answer
@@ -276,7 +286,7 @@ impl Rebuilder {
 
     /// The sheet's rows, in order of settling.
     pub fn sheet(&self) -> Sheet<'_> {
-        let rows = field(&self.state, 40) as usize;
+        let rows = field(&self.state, REBUILDER_ROWS) as usize;
         Sheet {
             bytes: &self.sheet[..ROW_BYTES * rows],
         }
@@ -284,12 +294,12 @@ impl Rebuilder {
 
     /// The questions answered, the opening among them.
     pub fn answered(&self) -> u32 {
-        field(&self.state, 32)
+        field(&self.state, REBUILDER_ANSWERED)
     }
 
     /// The answers' bytes, the opening's not counted.
     pub fn counted(&self) -> u32 {
-        field(&self.state, 36)
+        field(&self.state, REBUILDER_COUNTED)
     }
 
     /// The copy.
@@ -301,6 +311,51 @@ impl Rebuilder {
     pub fn state(&self) -> &[u8; REBUILDER_BYTES] {
         &self.state
     }
+}
+
+/// The bit count of X that string and sheet are made for: before the opening's answer the largest.
+fn bits_to_hold(state: &[u8]) -> usize {
+    match field(state, REBUILDER_PHASE) {
+        0 => MAX_BITS,
+        _ => field(state, REBUILDER_N) as usize,
+    }
+}
+
+/// Holds a saved string to the state.
+fn check_string(state: &[u8], string: &[u8]) -> Result<(), ResumeError> {
+    let (bytes, needed) = (string.len(), bits_to_hold(state).div_ceil(8));
+    if bytes < needed {
+        return Err(ResumeError::StringTooShort { bytes, needed });
+    }
+    let n = field(state, REBUILDER_N) as usize;
+    match BitString::from_bytes(string[..n.div_ceil(8)].to_vec(), n) {
+        Ok(_) => Ok(()),
+        Err(_) => Err(ResumeError::BadString),
+    }
+}
+
+/// Holds a saved sheet to the state. A finished run needs its used rows only; its state gets 3
+/// whether it is sound or not, so that m may be anything.
+fn check_sheet(state: &[u8], sheet: &[u8], finished: bool) -> Result<(), ResumeError> {
+    let n = field(state, REBUILDER_N);
+    let used = field(state, REBUILDER_ROWS) as usize;
+    let rows = if finished {
+        used
+    } else {
+        sheet_rows(bits_to_hold(state), field(state, REBUILDER_M) as usize)
+    };
+    let (bytes, needed) = (sheet.len(), rows.saturating_mul(ROW_BYTES));
+    if bytes < needed {
+        return Err(ResumeError::SheetTooShort { bytes, needed });
+    }
+    for (index, row) in sheet.chunks_exact(ROW_BYTES).take(used).enumerate() {
+        let (start, length) = (field(row, ROW_START), field(row, ROW_LENGTH));
+        let in_x = length > 0 && start.checked_add(length).is_some_and(|end| end <= n);
+        if !in_x || How::from_number(field(row, ROW_HOW)).is_none() {
+            return Err(ResumeError::BadRow { index });
+        }
+    }
+    Ok(())
 }
 
 impl fmt::Debug for Rebuilder {
@@ -331,15 +386,16 @@ pub enum How {
 }
 
 impl How {
+    /// All of them, in the order of their numbers.
+    pub const ALL: [How; 5] = [How::Hash, How::PutIn, How::TakeOut, How::Anchor, How::Bits];
+
     /// Its number, 1 to 5.
     pub const fn number(self) -> u32 {
         self as u32
     }
 
     fn from_number(number: u32) -> Option<How> {
-        [How::Hash, How::PutIn, How::TakeOut, How::Anchor, How::Bits]
-            .into_iter()
-            .find(|how| how.number() == number)
+        How::ALL.into_iter().find(|how| how.number() == number)
     }
 }
 
@@ -370,9 +426,9 @@ impl Iterator for Sheet<'_> {
         let (row, rest) = self.bytes.split_at(ROW_BYTES);
         self.bytes = rest;
         Some(Row {
-            start: field(row, 0),
-            length: field(row, 4),
-            how: How::from_number(field(row, 8)).expect("a used row has a how of 1 to 5"),
+            start: field(row, ROW_START),
+            length: field(row, ROW_LENGTH),
+            how: How::from_number(field(row, ROW_HOW)).expect("a used row has a how of 1 to 5"),
         })
     }
 
@@ -383,8 +439,3 @@ impl Iterator for Sheet<'_> {
 }
 
 impl ExactSizeIterator for Sheet<'_> {}
-
-/// The little-endian number at an offset.
-fn field(bytes: &[u8], at: usize) -> u32 {
-    u32::from_le_bytes(bytes[at..at + 4].try_into().expect("four bytes"))
-}

@@ -4,7 +4,7 @@ mod common;
 
 use common::*;
 use lunetteorris::model::Model;
-use lunetteorris::{unpack, Ends, Library, Refusal, MAX_BITS};
+use lunetteorris::{unpack, Ends, Library, Refusal, HOLDER_BYTES, MAX_BITS};
 
 /// A packed string, one in three damaged: bytes and a bit count.
 fn lent(random: &mut Random, longest: usize) -> (Vec<u8>, usize) {
@@ -214,23 +214,47 @@ fn anchors() {
     assert!(placed > 5_000);
 }
 
-/// Fresh holder states: 20 bytes, never more.
+/// Of several reasons the first counts: 1, 2, 8.
+#[test]
+fn order_of_anchor_refusals() {
+    for case in 0..16 {
+        let [setting, copy, anchor, range] = [1, 2, 4, 8].map(|bit| case & bit > 0);
+        let m = if setting { 7 } else { 9 };
+        let y = if copy { [0xff, 0xff] } else { [0xff, 0xf0] };
+        let a = if anchor { [0xff, 0xff] } else { [0xff, 0x80] };
+        let (start, q) = if range { (5, usize::MAX - 5) } else { (0, 12) };
+        let got = Library::anchor(&y, 12, start, q, 12, 0, m, 1, &a);
+        assert_eq!(got, Model::anchor(&y, 12, start, q, 12, 0, m, 1, &a));
+        let want = if setting {
+            Err(Refusal::BadSetting)
+        } else if copy || anchor {
+            Err(Refusal::BadString)
+        } else if range {
+            Err(Refusal::OutOfRange)
+        } else {
+            Ok(1)
+        };
+        assert_eq!(unpack(got), want, "case {case}");
+    }
+}
+
+/// Fresh holder states: so many bytes, never more.
 #[test]
 fn fresh_holders() {
     let random = &mut Random::new(25);
-    for length in 0..=40 {
+    for length in 0..=2 * HOLDER_BYTES {
         let before = random.bytes(length);
         let (mut state, mut model) = (before.clone(), before.clone());
         let got = Library::holder_fresh(&mut state);
         assert_eq!(got, Model::holder_fresh(&mut model));
         assert_eq!(state, model);
-        if length < 20 {
+        if length < HOLDER_BYTES {
             assert_eq!(unpack(got), Err(Refusal::BufferTooShort));
             assert_eq!(state, before);
         } else {
             assert_eq!(got, 0);
-            assert_eq!(state[..20], [0; 20]);
-            assert_eq!(state[20..], before[20..]);
+            assert_eq!(state[..HOLDER_BYTES], [0; HOLDER_BYTES]);
+            assert_eq!(state[HOLDER_BYTES..], before[HOLDER_BYTES..]);
         }
     }
 }

@@ -5,7 +5,7 @@
 mod common;
 
 use common::*;
-use lunetteorris::model::{holder_sound, rebuilder_sound, Model};
+use lunetteorris::model::{holder_sound, rebuilder_sound, Model, MAX_ANSWERS};
 use lunetteorris::{
     sheet_rows, unpack, Ends, Library, Refusal, HOLDER_BYTES, MAX_BITS, QUESTION_BYTES,
     REBUILDER_BYTES, ROW_BYTES,
@@ -258,7 +258,7 @@ fn at_lengths(buffer: &[u8], lengths: &[usize]) -> Vec<Vec<u8>> {
     lengths.iter().map(resized).collect()
 }
 
-/// Buffers that are just long enough or too short, and states of another length.
+/// Buffers that are just long enough, longer or too short.
 fn other_buffers(side: &RebuilderSide, n: usize) -> Vec<RebuilderSide> {
     let mut all = Vec::new();
     for question in at_lengths(&side.question, &[0, 1, 3, 6, 7, 8, 9]) {
@@ -526,6 +526,127 @@ fn buffers_and_strings() {
     seen.hold(40_000, &[0, 2, 3, 9]);
 }
 
+/// A state's buffer may be longer than the state: the call is the same, and later bytes stay. A
+/// shorter one gets 3, whatever the message and the other buffers are.
+#[test]
+fn state_buffers() {
+    let random = &mut Random::new(41);
+    let mut seen = Seen::default();
+    for _ in 0..60 {
+        let (holders, rebuilders) = short_run(random, 300);
+        for case in rebuilders {
+            let (outcome, after) = case.clone().call(&mut seen);
+            for more in [1, 3, 4, 36] {
+                let spare = random.bytes(more);
+                let mut longer = case.clone();
+                longer.side.state.extend(&spare);
+                let mut expected = after.clone();
+                expected.state.extend(&spare);
+                assert_eq!(longer.call(&mut seen), (outcome, expected));
+            }
+            for length in [0, 1, 4, REBUILDER_BYTES - 4, REBUILDER_BYTES - 1] {
+                let mut shorter = case.clone();
+                shorter.side.state.truncate(length);
+                if random.bit() {
+                    shorter.message.clear();
+                    shorter.side.question.clear();
+                    shorter.side.sheet.clear();
+                }
+                assert_eq!(shorter.call(&mut seen).0, Err(Refusal::OutOfTurn));
+            }
+        }
+        for case in holders {
+            let (outcome, after) = case.clone().call(&mut seen);
+            for more in [1, 3, 4, 36] {
+                let spare = random.bytes(more);
+                let mut longer = case.clone();
+                longer.side.state.extend(&spare);
+                let mut expected = after.clone();
+                expected.state.extend(&spare);
+                assert_eq!(longer.call(&mut seen), (outcome, expected));
+            }
+            for length in [0, 1, 4, HOLDER_BYTES - 4, HOLDER_BYTES - 1] {
+                let mut shorter = case.clone();
+                shorter.side.state.truncate(length);
+                if random.bit() {
+                    shorter.message.clear();
+                    shorter.side.reply.clear();
+                }
+                assert_eq!(shorter.call(&mut seen).0, Err(Refusal::OutOfTurn));
+            }
+        }
+    }
+    seen.hold(5_000, &[0, 3]);
+}
+
+/// A whole run on states that were made in longer buffers, at any address.
+#[test]
+fn runs_in_longer_state_buffers() {
+    let random = &mut Random::new(42);
+    let (x, y) = ("1100101011110000101001101", "110010101111000101001101");
+    let (x, y) = (packed(&bits_of(x)), packed(&bits_of(y)));
+    for first in 0..8 {
+        let mut holder = random.bytes(first + HOLDER_BYTES + 12);
+        let mut rebuilder = random.bytes(first + REBUILDER_BYTES + 12);
+        let before = (holder.clone(), rebuilder.clone());
+        let mut question = random.bytes(QUESTION_BYTES);
+        let mut reply = random.bytes(12);
+        let mut string = random.bytes(x.as_bytes().len());
+        let mut sheet = random.bytes(ROW_BYTES * sheet_rows(x.bits(), HOUSE.m as usize));
+        let Numbers {
+            m,
+            h,
+            k,
+            key,
+            ceiling,
+        } = HOUSE;
+        unpack(Library::holder_fresh(&mut holder[first..])).expect("a longer buffer");
+        let mut length = unpack(Library::rebuilder_start(
+            m,
+            h,
+            k,
+            key,
+            ceiling,
+            y.as_bytes(),
+            y.bits(),
+            &mut rebuilder[first..],
+            &mut question,
+        ))
+        .expect("a longer buffer") as usize;
+        while length > 0 {
+            let replied = unpack(Library::holder_answer(
+                &mut holder[first..],
+                x.as_bytes(),
+                x.bits(),
+                &question[..length],
+                &mut reply,
+            ))
+            .expect("the holder's longer buffer is taken") as usize;
+            length = unpack(Library::rebuilder_call(
+                &mut rebuilder[first..],
+                y.as_bytes(),
+                y.bits(),
+                &mut string,
+                &mut sheet,
+                &reply[..replied],
+                &mut question,
+            ))
+            .expect("the rebuilder's longer buffer is taken") as usize;
+        }
+        assert_eq!(string, x.as_bytes());
+        assert_eq!(holder[..first], before.0[..first]);
+        assert_eq!(
+            holder[first + HOLDER_BYTES..],
+            before.0[first + HOLDER_BYTES..]
+        );
+        assert_eq!(rebuilder[..first], before.1[..first]);
+        assert_eq!(
+            rebuilder[first + REBUILDER_BYTES..],
+            before.1[first + REBUILDER_BYTES..]
+        );
+    }
+}
+
 #[test]
 fn starts() {
     let random = &mut Random::new(36);
@@ -547,8 +668,10 @@ fn starts() {
             let all = damaged_strings(random, &y.0, bits);
             y = all[random.below(all.len())].clone();
         }
-        let state = random.pick(&[564, 564, 564, 570, 563, 0]);
-        let question = random.pick(&[8, 8, 8, 12, 7, 0]);
+        let (exact, longer) = (REBUILDER_BYTES, REBUILDER_BYTES + 6);
+        let state = random.pick(&[exact, exact, exact, longer, exact - 1, 0]);
+        let (exact, longer) = (QUESTION_BYTES, QUESTION_BYTES + 4);
+        let question = random.pick(&[exact, exact, exact, longer, exact - 1, 0]);
         let before = (random.bytes(state), random.bytes(question));
         let (mut library, mut model) = (before.clone(), before.clone());
         let Numbers {
@@ -570,8 +693,8 @@ fn starts() {
             Ok(length) => {
                 assert_eq!(library.1[..length], message(&[0, 1, h, key]));
                 assert_eq!(library.1[length..], before.1[length..]);
-                assert_eq!(library.0[564..], before.0[564..]);
-                assert!(rebuilder_sound(&library.0[..564]));
+                assert_eq!(library.0[REBUILDER_BYTES..], before.0[REBUILDER_BYTES..]);
+                assert!(rebuilder_sound(&library.0));
             }
         }
     }
@@ -617,8 +740,10 @@ fn several_damages() {
                 if random.below(3) == 0 {
                     damage_field(random, &mut case.side.state, 5);
                 }
-                if random.below(8) == 0 {
-                    case.side.state.pop();
+                match random.below(16) {
+                    0 | 1 => _ = case.side.state.pop(),
+                    2 | 3 => case.side.state.extend([0xa5; 4]),
+                    _ => {}
                 }
                 if random.below(4) == 0 {
                     let all = damaged_strings(random, &case.x, case.bits);
@@ -796,7 +921,7 @@ fn runs_with_altered_states() {
                 }
                 .compare(&mut seen);
                 // Y's bit count and the finish aside, soundness decides.
-                let same_y = field(&altered, 20) == y_bits;
+                let same_y = field(&altered, Y_BITS) == y_bits;
                 let goes_on = field(&altered, PHASE) != 1 || field(&altered, WAITING) > 0;
                 if rebuilder_sound(&altered) && same_y && goes_on {
                     case.side.state = altered;
@@ -950,8 +1075,7 @@ fn made_up_state(random: &mut Random, y_bits: usize) -> Vec<u8> {
 }
 
 fn leftmost_of(state: &[u8], waiting: usize) -> Option<[usize; 4]> {
-    let last = waiting.checked_sub(1)?;
-    Some([0, 4, 8, 12].map(|at| field(state, PIECES + 16 * last + at)))
+    waiting.checked_sub(1).map(|last| piece(state, last))
 }
 
 #[test]
@@ -1072,13 +1196,13 @@ fn spent_answers() {
         state: vec![0; HOLDER_BYTES],
         reply: vec![0; 12],
     };
-    for (i, value) in [1, 8, 8, 1, 999_998].into_iter().enumerate() {
+    for (i, value) in [1, 8, 8, 1, MAX_ANSWERS as u32 - 2].into_iter().enumerate() {
         set_field(&mut side.state, 4 * i, value);
     }
     let question = message(&[1, 0, 8]);
     assert!(holder_call(&mut side, &[0x5a], 8, &question).is_ok());
     assert!(holder_call(&mut side, &[0x5a], 8, &question).is_ok());
-    assert_eq!(field(&side.state, 16), 1_000_000);
+    assert_eq!(field(&side.state, HOLDER_ANSWERS), MAX_ANSWERS);
     assert!(holder_sound(&side.state));
     for message in [question, vec![], vec![0x80, 0], vec![9]] {
         let spent = holder_call(&mut side, &[0x5a], 8, &message);

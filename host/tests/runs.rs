@@ -89,7 +89,7 @@ impl Run<'_> {
         let whole = 1 + n.div_ceil(8);
         assert_eq!(self.state(ANSWERED), answers);
         assert_eq!(self.state(COUNTED), answer_bytes);
-        assert_eq!(field(&self.holder.state, 16), answers);
+        assert_eq!(field(&self.holder.state, HOLDER_ANSWERS), answers);
         assert!(answers <= 9 * (n / m) + 6);
         assert!(answer_bytes <= self.settings.ceiling as usize + whole + whole.max(9));
         assert!(self.state(ROWS) <= sheet_rows(n, m));

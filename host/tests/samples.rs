@@ -4,7 +4,10 @@ mod common;
 
 use common::*;
 use lunetteorris::model::Model;
-use lunetteorris::{unpack, BitString, Ends, Library, Refusal};
+use lunetteorris::{
+    sheet_rows, unpack, BitString, Ends, Library, Refusal, HOLDER_BYTES, MAX_BITS, QUESTION_BYTES,
+    REBUILDER_BYTES, REPLY_BYTES, ROW_BYTES,
+};
 
 fn string(text: &str) -> BitString {
     text.parse().unwrap()
@@ -70,8 +73,8 @@ fn hashes<E: Ends>() {
 /// M11 and M12: numbers, seen through a rebuilder that takes an opening's answer.
 fn numbers<E: Ends>() {
     let open = |message: &[u8]| {
-        let mut state = [0; 564];
-        let mut question = [0; 8];
+        let mut state = [0; REBUILDER_BYTES];
+        let mut question = [0; QUESTION_BYTES];
         unpack(E::rebuilder_start(
             8,
             8,
@@ -84,7 +87,8 @@ fn numbers<E: Ends>() {
             &mut question,
         ))
         .unwrap();
-        let (mut string, mut sheet) = ([0xff; 8192], [0; 12 * 16385]);
+        let mut string = [0xff; MAX_BITS / 8];
+        let mut sheet = [0; ROW_BYTES * sheet_rows(MAX_BITS, 8)];
         let result = E::rebuilder_call(
             &mut state,
             &[],
@@ -123,8 +127,8 @@ fn numbers<E: Ends>() {
 fn questions<E: Ends>() {
     let ask = |n: usize, answers: &[&[u8]]| -> Vec<Vec<u8>> {
         let y = [0xff; 9];
-        let mut state = [0; 564];
-        let mut question = [0; 8];
+        let mut state = [0; REBUILDER_BYTES];
+        let mut question = [0; QUESTION_BYTES];
         unpack(E::rebuilder_start(
             8,
             8,
@@ -137,7 +141,7 @@ fn questions<E: Ends>() {
             &mut question,
         ))
         .unwrap();
-        let (mut string, mut sheet) = ([0; 8], [0; 12 * 17]);
+        let (mut string, mut sheet) = ([0; 8], [0; ROW_BYTES * sheet_rows(64, 8)]);
         let opening = [0, n as u8];
         let mut asked = Vec::new();
         for message in std::iter::once(&opening[..]).chain(answers.iter().copied()) {
@@ -210,10 +214,11 @@ fn demonstration<E: Ends>(settings: Numbers, x: &str, y: &str) -> Vec<String> {
         ceiling,
     } = settings;
     let mut lines = Vec::new();
-    let mut holder = [0; 20];
-    let mut rebuilder = [0; 564];
-    let (mut question, mut reply) = ([0; 8], [0; 8193]);
-    let (mut bits, mut sheet) = ([0xee; 8192], vec![0xee; 12 * 16385]);
+    let mut holder = [0; HOLDER_BYTES];
+    let mut rebuilder = [0; REBUILDER_BYTES];
+    let (mut question, mut reply) = ([0; QUESTION_BYTES], [0; REPLY_BYTES]);
+    let mut bits = [0xee; MAX_BITS / 8];
+    let mut sheet = [0xee; ROW_BYTES * sheet_rows(MAX_BITS, 8)];
     unpack(E::holder_fresh(&mut holder)).unwrap();
     let mut length = unpack(E::rebuilder_start(
         m,

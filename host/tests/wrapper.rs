@@ -2,10 +2,12 @@
 
 mod common;
 
+use std::thread;
+
 use common::*;
 use lunetteorris::{
     find_anchor, hash, pack, repair, syndrome, unpack, BitString, Holder, How, Rebuilder, Refusal,
-    Row, Saved, Settings, MAX_BITS,
+    ResumeError, Row, Saved, Settings, MAX_BITS, ROW_BYTES,
 };
 
 fn synchronised(settings: Settings, x: &BitString, y: &BitString) -> Rebuilder {
@@ -56,7 +58,10 @@ fn strings() {
     assert_eq!(BitString::from_bytes(vec![0x81], 7), bad);
     assert_eq!(BitString::from_bytes(vec![0], 9), bad);
     assert_eq!(BitString::from_bytes(vec![0, 0], 8), bad);
-    assert_eq!(BitString::from_bytes(vec![0; 8193], MAX_BITS + 1), bad);
+    assert_eq!(
+        BitString::from_bytes(vec![0; MAX_BITS / 8 + 1], MAX_BITS + 1),
+        bad
+    );
     assert_eq!(
         "0".repeat(MAX_BITS).parse::<BitString>().unwrap().bits(),
         MAX_BITS
@@ -94,7 +99,28 @@ fn codes() -> Result<(), Refusal> {
         find_anchor(&y, 0..10, 10, 1, 9, &anchor),
         Err(Refusal::BadSetting)
     );
-    assert_eq!(find_anchor(&y, 0..10, 10, 1, 1, &s), Err(Refusal::BadSetting));
+    assert_eq!(
+        find_anchor(&y, 0..10, 10, 1, 1, &s),
+        Err(Refusal::BadSetting)
+    );
+    Ok(())
+}
+
+/// A reversed range is refused in its turn, behind the settings.
+#[test]
+#[allow(clippy::reversed_empty_ranges)]
+fn reversed_ranges() -> Result<(), Refusal> {
+    let y: BitString = "0010110111".parse()?;
+    let anchor: BitString = "10110111".parse()?;
+    let short: BitString = "1011".parse()?;
+    for within in [1..0, 10..9, 11..10, MAX_BITS + 1..0, usize::MAX..0] {
+        let found = |k, anchor| find_anchor(&y, within.clone(), 10, 1, k, anchor);
+        assert_eq!(found(1, &anchor), Err(Refusal::OutOfRange), "{within:?}");
+        assert_eq!(found(0, &anchor), Err(Refusal::BadSetting), "{within:?}");
+        assert_eq!(found(9, &anchor), Err(Refusal::BadSetting), "{within:?}");
+        assert_eq!(found(1, &short), Err(Refusal::BadSetting), "{within:?}");
+    }
+    assert_eq!(find_anchor(&y, 10..10, 10, 1, 1, &anchor)?, None);
     Ok(())
 }
 
@@ -205,6 +231,21 @@ fn a_refused_answer_changes_nothing() {
     assert_eq!(rebuilder.take(&answer), Err(Refusal::OutOfTurn));
 }
 
+/// Runs at the same time, each on its own states, are as a run alone.
+#[test]
+fn runs_at_the_same_time() {
+    let random = &mut Random::new(52);
+    let x = random_bits(random, 20_000);
+    let y = copy_of(random, &x, Change::ManyEdits, MAX_BITS);
+    let (x, y) = (packed(&x), packed(&y));
+    let alone = synchronised(Settings::house(), &x, &y);
+    thread::scope(|scope| {
+        for _ in 0..8 {
+            scope.spawn(|| assert!(synchronised(Settings::house(), &x, &y) == alone));
+        }
+    });
+}
+
 /// A run that is saved and taken up again before every answer is the same run.
 #[test]
 fn saved_runs() {
@@ -226,40 +267,173 @@ fn saved_runs() {
     assert!(Rebuilder::resume(y, rebuilder.save()).unwrap().finished());
 }
 
+/// What resume says of a saved run after a change.
+fn resumed(y: &BitString, saved: &Saved, change: impl Fn(&mut Saved)) -> Option<ResumeError> {
+    let mut saved = saved.clone();
+    change(&mut saved);
+    Rebuilder::resume(y.clone(), saved).err()
+}
+
 #[test]
-fn what_was_not_saved_is_refused() {
-    let x: BitString = "1011".parse().unwrap();
-    let y: BitString = "101".parse().unwrap();
+fn finished_runs_that_were_not_saved_so() {
+    let (x, y): (BitString, BitString) = ("1011".parse().unwrap(), "101".parse().unwrap());
     let saved = synchronised(Settings::house(), &x, &y).save();
-    let resumed = |change: fn(&mut Saved)| {
-        let mut saved = saved.clone();
-        change(&mut saved);
-        Rebuilder::resume(y.clone(), saved).err()
-    };
+    let resumed = |change: fn(&mut Saved)| resumed(&y, &saved, change);
     assert_eq!(resumed(|_| ()), None);
     assert_eq!(
-        resumed(|saved| saved.question = vec![0; 9]),
-        Some(Refusal::OutOfRange)
+        resumed(|saved| saved.question = vec![2, 0, 4]),
+        Some(ResumeError::Question {
+            bytes: 3,
+            finished: true
+        })
     );
     assert_eq!(
         resumed(|saved| saved.string.clear()),
-        Some(Refusal::BufferTooShort)
+        Some(ResumeError::StringTooShort {
+            bytes: 0,
+            needed: 1
+        })
     );
     assert_eq!(
         resumed(|saved| saved.string[0] |= 1),
-        Some(Refusal::BadString)
+        Some(ResumeError::BadString)
     );
     assert_eq!(
-        resumed(|saved| saved.sheet.truncate(11)),
-        Some(Refusal::BufferTooShort)
+        resumed(|saved| saved.sheet.truncate(ROW_BYTES - 1)),
+        Some(ResumeError::SheetTooShort {
+            bytes: ROW_BYTES - 1,
+            needed: ROW_BYTES
+        })
     );
-    assert_eq!(
-        resumed(|saved| saved.sheet[8] = 6),
-        Some(Refusal::OutOfRange)
-    );
-    // An unsound state is found by the next call.
-    let mut unsound = saved.clone();
-    unsound.state[24] = 9;
-    let mut rebuilder = Rebuilder::resume(y.clone(), unsound).unwrap();
-    assert_eq!(rebuilder.take(&[0, 4]), Err(Refusal::OutOfTurn));
+    let other = Rebuilder::resume("1010".parse().unwrap(), saved.clone());
+    assert_eq!(other.err(), Some(ResumeError::Refused(Refusal::BadString)));
+    let bad_row = Some(ResumeError::BadRow { index: 0 });
+    for how in [0, 6] {
+        let mut saved = saved.clone();
+        set_field(&mut saved.sheet, ROW_HOW, how);
+        assert_eq!(Rebuilder::resume(y.clone(), saved).err(), bad_row);
+    }
+    for (start, length) in [(0, 0), (0, 5), (1, 4), (4, 1), (u32::MAX, 1), (1, u32::MAX)] {
+        let mut saved = saved.clone();
+        set_field(&mut saved.sheet, ROW_START, start);
+        set_field(&mut saved.sheet, ROW_LENGTH, length);
+        assert_eq!(Rebuilder::resume(y.clone(), saved).err(), bad_row);
+    }
+    // Whatever the bytes of a finished state are, resume gives an error or a rebuilder that can be
+    // read.
+    let random = &mut Random::new(53);
+    for at in (0..saved.state.len()).step_by(4) {
+        let any = random.number();
+        for value in [0, 1, 2, any, u32::MAX] {
+            let mut saved = saved.clone();
+            set_field(&mut saved.state, at, value);
+            if let Ok(rebuilder) = Rebuilder::resume(y.clone(), saved) {
+                assert!(rebuilder.finished());
+                let rows = rebuilder.sheet().count();
+                println!("{} {rows} {rebuilder:?}", rebuilder.string());
+            }
+        }
+    }
+}
+
+#[test]
+fn runs_that_were_not_saved_so() {
+    let (x, y): (BitString, BitString) = ("1011".parse().unwrap(), "101".parse().unwrap());
+    let mut holder = Holder::new(x);
+    let mut rebuilder = Rebuilder::start(Settings::house(), y.clone()).unwrap();
+    // Before the opening's answer string and sheet are for any X, after it for this one.
+    let rows = 2 * (MAX_BITS / 16) + 1;
+    for (string, sheet) in [(MAX_BITS / 8, ROW_BYTES * rows), (1, ROW_BYTES)] {
+        let saved = rebuilder.save();
+        let resumed = |change: fn(&mut Saved)| resumed(&y, &saved, change);
+        assert_eq!(resumed(|_| ()), None);
+        let question = |bytes| ResumeError::Question {
+            bytes,
+            finished: false,
+        };
+        assert_eq!(resumed(|saved| saved.question.clear()), Some(question(0)));
+        assert_eq!(
+            resumed(|saved| saved.question = vec![0; 9]),
+            Some(question(9))
+        );
+        assert_eq!(
+            resumed(|saved| _ = saved.string.pop()),
+            Some(ResumeError::StringTooShort {
+                bytes: string - 1,
+                needed: string
+            })
+        );
+        assert_eq!(
+            resumed(|saved| _ = saved.sheet.pop()),
+            Some(ResumeError::SheetTooShort {
+                bytes: sheet - 1,
+                needed: sheet
+            })
+        );
+        // The library finds an unsound state and another copy.
+        assert_eq!(
+            resumed(|saved| set_field(&mut saved.state, PHASE, 9)),
+            Some(ResumeError::Refused(Refusal::OutOfTurn))
+        );
+        assert_eq!(
+            resumed(|saved| set_field(&mut saved.state, M, 0)),
+            Some(ResumeError::Refused(Refusal::OutOfTurn))
+        );
+        let other = Rebuilder::resume("1010".parse().unwrap(), saved.clone());
+        assert_eq!(other.err(), Some(ResumeError::Refused(Refusal::BadString)));
+        let answer = holder.answer(rebuilder.question().unwrap()).unwrap();
+        rebuilder.take(&answer).unwrap();
+    }
+    assert!(rebuilder.finished());
+}
+
+#[test]
+fn messages_of_resume_errors() {
+    let messages = [
+        (
+            ResumeError::Refused(Refusal::OutOfTurn),
+            "the saved state is turned down with this copy: \
+             refusal 3: the call is out of turn or the state is unsound",
+        ),
+        (
+            ResumeError::Question {
+                bytes: 9,
+                finished: false,
+            },
+            "the saved question has 9 bytes, a question that waits has 1 to 8",
+        ),
+        (
+            ResumeError::Question {
+                bytes: 3,
+                finished: true,
+            },
+            "the saved question has 3 bytes, but the run is finished",
+        ),
+        (
+            ResumeError::StringTooShort {
+                bytes: 1,
+                needed: 2,
+            },
+            "the saved string has 1 bytes, the run needs 2",
+        ),
+        (
+            ResumeError::BadString,
+            "the saved string breaks the string rule",
+        ),
+        (
+            ResumeError::SheetTooShort {
+                bytes: 11,
+                needed: 12,
+            },
+            "the saved sheet has 11 bytes, the run needs 12",
+        ),
+        (
+            ResumeError::BadRow { index: 4 },
+            "row 4 of the saved sheet is none that a run writes",
+        ),
+    ];
+    for (error, message) in messages {
+        let error: &dyn std::error::Error = &error;
+        assert_eq!(error.to_string(), message);
+    }
 }

@@ -1,9 +1,18 @@
 //! What the tests share: random numbers, strings, and calls made on library and model alike.
-#![allow(dead_code)]
+#![allow(dead_code, unused_imports)]
 
+pub mod c;
+
+pub use lunetteorris::layout::{
+    HOLDER_ANSWERS, REBUILDER_ANSWERED as ANSWERED, REBUILDER_CEILING as CEILING,
+    REBUILDER_COUNTED as COUNTED, REBUILDER_H as H, REBUILDER_KEY as KEY, REBUILDER_M as M,
+    REBUILDER_N as N, REBUILDER_PHASE as PHASE, REBUILDER_PIECES as PIECES, REBUILDER_ROWS as ROWS,
+    REBUILDER_STAGE as STAGE, REBUILDER_WAITING as WAITING, REBUILDER_Y_BITS as Y_BITS, ROW_HOW,
+    ROW_LENGTH, ROW_START,
+};
 use lunetteorris::model::{holder_sound, rebuilder_sound, Model};
 use lunetteorris::{
-    sheet_rows, unpack, BitString, Ends, Library, Refusal, HOLDER_BYTES, QUESTION_BYTES,
+    sheet_rows, unpack, BitString, Ends, Library, Refusal, Settings, HOLDER_BYTES, QUESTION_BYTES,
     REBUILDER_BYTES, ROW_BYTES,
 };
 
@@ -217,6 +226,7 @@ pub fn copy_of(random: &mut Random, x: &[bool], change: Change, most: usize) -> 
 
 // Settings
 
+/// Settings under 01's names.
 #[derive(Clone, Copy, Debug)]
 pub struct Numbers {
     pub m: u32,
@@ -227,11 +237,11 @@ pub struct Numbers {
 }
 
 pub const HOUSE: Numbers = Numbers {
-    m: 16,
-    h: 16,
-    k: 2,
-    key: 1,
-    ceiling: 4_096,
+    m: Settings::HOUSE.anchor,
+    h: Settings::HOUSE.hash,
+    k: Settings::HOUSE.window,
+    key: Settings::HOUSE.key,
+    ceiling: Settings::HOUSE.ceiling,
 };
 
 /// Settings within their limits, the limits themselves often.
@@ -261,31 +271,22 @@ pub fn set_field(state: &mut [u8], at: usize, value: u32) {
     state[at..at + 4].copy_from_slice(&value.to_le_bytes());
 }
 
-// Offsets in a rebuilder's state
-pub const M: usize = 0;
-pub const H: usize = 4;
-pub const KEY: usize = 12;
-pub const CEILING: usize = 16;
-pub const PHASE: usize = 24;
-pub const N: usize = 28;
-pub const ANSWERED: usize = 32;
-pub const COUNTED: usize = 36;
-pub const ROWS: usize = 40;
-pub const STAGE: usize = 44;
-pub const WAITING: usize = 48;
-pub const PIECES: usize = 52;
+/// A piece of a rebuilder's state: x, p, y, q.
+pub fn piece(state: &[u8], i: usize) -> [usize; 4] {
+    [0, 4, 8, 12].map(|at| field(state, PIECES + 16 * i + at))
+}
 
-/// The leftmost waiting piece of a rebuilder's state: x, p, y, q.
+/// The leftmost waiting piece.
 pub fn leftmost(state: &[u8]) -> Option<[usize; 4]> {
     let last = field(state, WAITING).checked_sub(1)?;
-    Some([0, 4, 8, 12].map(|at| field(state, PIECES + 16 * last + at)))
+    Some(piece(state, last))
 }
 
 /// The rows in use: start, length, how.
 pub fn rows(state: &[u8], sheet: &[u8]) -> Vec<[usize; 3]> {
     sheet[..ROW_BYTES * field(state, ROWS)]
         .chunks_exact(ROW_BYTES)
-        .map(|row| [0, 4, 8].map(|at| field(row, at)))
+        .map(|row| [ROW_START, ROW_LENGTH, ROW_HOW].map(|at| field(row, at)))
         .collect()
 }
 
@@ -345,7 +346,7 @@ fn outcome(packed: u64) -> Outcome {
 }
 
 /// The holder's call on library and model: same result, same bytes; on a refusal nothing changes,
-/// on an answer only the state and the reply's own bytes.
+/// on an answer only the state's and the reply's own bytes.
 pub fn holder_call(side: &mut HolderSide, x: &[u8], bits: usize, message: &[u8]) -> Outcome {
     let before = side.clone();
     let mut model = side.clone();
@@ -363,6 +364,8 @@ pub fn holder_call(side: &mut HolderSide, x: &[u8], bits: usize, message: &[u8])
         Err(_) => assert!(*side == before, "changed {side:?}, {}", told()),
         Ok(length) => {
             assert_eq!(side.reply[length..], before.reply[length..], "{}", told());
+            let behind = |side: &HolderSide| side.state[HOLDER_BYTES..].to_vec();
+            assert_eq!(behind(side), behind(&before), "{}", told());
             assert!(holder_sound(&side.state), "{}", told());
         }
     }
@@ -370,7 +373,7 @@ pub fn holder_call(side: &mut HolderSide, x: &[u8], bits: usize, message: &[u8])
 }
 
 /// The rebuilder's call on library and model: same result, same bytes; on a refusal nothing
-/// changes, on a taken answer nothing behind the string, the used rows and the question.
+/// changes, on a taken answer nothing behind the state, the string, the used rows and the question.
 pub fn rebuilder_call(side: &mut RebuilderSide, y: &[u8], bits: usize, message: &[u8]) -> Outcome {
     let before = side.clone();
     let mut model = side.clone();
@@ -403,6 +406,8 @@ pub fn rebuilder_call(side: &mut RebuilderSide, y: &[u8], bits: usize, message: 
     match got {
         Err(_) => assert!(*side == before, "changed {side:02x?}, {}", told()),
         Ok(length) => {
+            let behind = |side: &RebuilderSide| side.state[REBUILDER_BYTES..].to_vec();
+            assert_eq!(behind(side), behind(&before), "{}", told());
             let string = field(&side.state, N).div_ceil(8);
             let used = field(&side.state, ROWS).max(field(&before.state, ROWS)) * ROW_BYTES;
             assert_eq!(side.string[string..], before.string[string..], "{}", told());
