@@ -293,10 +293,10 @@ fn byte_count(bits: usize) -> usize
 fn run_lines(settings: Settings, input: &[u8]) {
     let mut x = [0u8; 8192];
     let mut y = [0u8; 8192];
-    let StringRead::Bits(xbits) = lines::read_string(input, 1, &mut x) else {
+    let StringRead::Packed(xbits) = lines::read_string(input, 1, &mut x) else {
         return print_refusal(Refusal::BadString);
     };
-    let StringRead::Bits(ybits) = lines::read_string(input, 2, &mut y) else {
+    let StringRead::Packed(ybits) = lines::read_string(input, 2, &mut y) else {
         return print_refusal(Refusal::BadString);
     };
     let xsize = byte_count(xbits);

@@ -1,16 +1,18 @@
--- The settings line: five decimal numbers parted by single blanks, nothing before or after.
+-- The settings line: five decimal numbers parted by single blanks, nothing before or after. A line of another form is refused with 1.
 use mathlib.Core.Bool.{Bool, true, cond, _&&_}
 use mathlib.Core.List.{List, [], _∷_}
+use mathlib.Core.Option.{Option, none, some, bind}
 use Prim.Native.Nat.{ℕ, _+_, _-_, _*_}
 use lib.ListN.{length}
 use lib.Dec.{leb, ltb}
-use Rattle.lines.specs.declared.FieldFound.{FieldFound}
-use Rattle.lines.specs.declared.FieldFound.the-variants.{At, Missing}
-use Rattle.lines.specs.declared.Decimal.{Decimal}
-use Rattle.lines.specs.declared.Decimal.the-variants.{Value, NotDecimal}
+use Rattle.strings.specs.Bits.{maxBits}
+use Rattle.strings.specs.declared.settings.Settings.{Settings}
+use Rattle.strings.specs.declared.Refusal.the-variants.{BadSetting}
+use Rattle.strings.specs.Refusals.{refusalNumber}
+use Rattle.strings.specs.Results.{Result, refusal, value, unless, andThen}
 use Rattle.lines.specs.declared.SettingsRead.{SettingsRead}
 use Rattle.lines.specs.declared.SettingsRead.the-variants.{Parsed, Malformed}
-use Rattle.lines.specs.Fields.{field, bytesBetween}
+use Rattle.lines.specs.Fields.{blankByte, field, fieldBytes, absent, orRefuse, lineOf}
 
 -- the bytes 0 (48) to 9 (57)
 unfoldable pub isDigit : ℕ → Bool
@@ -26,43 +28,43 @@ valueFrom v [] = v
 valueFrom v (x ∷ l) = valueFrom (v * 10 + (x - 48)) l
 
 -- A decimal number: one or more digits, leading zeros allowed. A value of 2^32 or more is none: no setting's limits hold it, so that it is refused with 1 either way.
-unfoldable pub decimalOf : List ℕ → Decimal
-decimalOf l = cond (ltb 0 (length l) && (allDigits l && ltb (valueFrom 0 l) 4294967296)) (Value (valueFrom 0 l)) NotDecimal
+unfoldable pub decimalOf : List ℕ → Option ℕ
+decimalOf l = cond (ltb 0 (length l) && (allDigits l && ltb (valueFrom 0 l) 4294967296)) (some (valueFrom 0 l)) none
 
-abbrev pub groupAt : List ℕ → FieldFound → Decimal
-groupAt line (At a b) = decimalOf (bytesBetween a b line)
-groupAt line Missing = NotDecimal
+-- the number of group i of the line, the groups being what blanks part; an empty group, as between two blanks, is none
+unfoldable pub groupOf : List ℕ → ℕ → Option ℕ
+groupOf line i = bind (fieldBytes blankByte i line) decimalOf
 
--- the number of group i of the line, the groups being what blanks (32) part; an empty group, as between two blanks, is none
-unfoldable pub groupOf : List ℕ → ℕ → Decimal
-groupOf line i = groupAt line (field 32 i line)
-
-abbrev pub withValue : Decimal → (ℕ → SettingsRead) → SettingsRead
-withValue (Value v) f = f v
-withValue NotDecimal f = Malformed
+-- the setting in group i
+abbrev pub settingAt : List ℕ → ℕ → Result ℕ
+settingAt line i = orRefuse BadSetting (groupOf line i)
 
 -- m, h, k, key, ceiling, in that order
-unfoldable pub fiveGroups : List ℕ → SettingsRead
+unfoldable pub fiveGroups : List ℕ → Result Settings
 fiveGroups line =
-    withValue (groupOf line 0) (λ m.
-    withValue (groupOf line 1) (λ h.
-    withValue (groupOf line 2) (λ k.
-    withValue (groupOf line 3) (λ key.
-    withValue (groupOf line 4) (λ ceiling.
-    Parsed (record { m = m; h = h; k = k; key = key; ceiling = ceiling }))))))
+    andThen (settingAt line 0) (λ m.
+    andThen (settingAt line 1) (λ h.
+    andThen (settingAt line 2) (λ k.
+    andThen (settingAt line 3) (λ key.
+    andThen (settingAt line 4) (λ ceiling.
+    value (record { m = m; h = h; k = k; key = key; ceiling = ceiling }))))))
 
-abbrev pub noMore : FieldFound → SettingsRead → SettingsRead
-noMore (At a b) r = Malformed
-noMore Missing r = r
+-- the most characters of the line: as many as a line of X or Y may have
+abbrev pub longestLine : ℕ
+longestLine = maxBits
 
--- five groups and no sixth; as the lines of X and Y, the line has at most 65,536 characters
-unfoldable pub settingsOf : List ℕ → SettingsRead
-settingsOf line = cond (leb (length line) 65536) (noMore (field 32 5 line) (fiveGroups line)) Malformed
+-- five groups and no sixth
+unfoldable pub settingsOf : List ℕ → Result Settings
+settingsOf line =
+    unless (leb (length line) longestLine) BadSetting (
+    unless (absent (field blankByte 5 line)) BadSetting (
+    fiveGroups line))
 
-abbrev pub settingsAt : List ℕ → FieldFound → SettingsRead
-settingsAt input (At a b) = settingsOf (bytesBetween a b input)
-settingsAt input Missing = Malformed
+-- the settings of the input: its line 0
+unfoldable pub settingsIn : List ℕ → Result Settings
+settingsIn input = andThen (lineOf BadSetting 0 input) settingsOf
 
--- the settings of the input: its line 0, the lines being what newlines (10) part
-unfoldable pub settingsIn : List ℕ → SettingsRead
-settingsIn input = settingsAt input (field 10 0 input)
+-- what the code's answer says
+abbrev pub saidSettings : SettingsRead → Result Settings
+saidSettings (Parsed s) = value s
+saidSettings Malformed = refusal (refusalNumber BadSetting)

@@ -1,15 +1,16 @@
--- The lines of X and Y: zeros and ones only, at most 65,536; the empty line is the empty string.
-use mathlib.Core.Bool.{Bool, true, cond, _&&_, _||_}
+-- The lines of X and Y: zeros and ones only, at most 65,536; the empty line is the empty string. A line of another form is refused with 2.
+use mathlib.Core.Bool.{Bool, true, _&&_, _||_}
 use mathlib.Core.List.{List, [], _∷_}
 use Prim.Native.Nat.{ℕ}
 use lib.ListN.{length}
 use lib.Dec.{eqb, leb}
-use Rattle.strings.specs.Bits.{bytesFor, pack, atFront}
-use Rattle.lines.specs.declared.FieldFound.{FieldFound}
-use Rattle.lines.specs.declared.FieldFound.the-variants.{At, Missing}
+use Rattle.strings.specs.Bits.{maxBits, bytesFor, pack, atFront}
+use Rattle.strings.specs.declared.Refusal.the-variants.{BadString, BufferTooShort}
+use Rattle.strings.specs.Refusals.{refusalNumber}
+use Rattle.strings.specs.Results.{Result, refusal, value, unless, andThen}
 use Rattle.lines.specs.declared.StringRead.{StringRead}
-use Rattle.lines.specs.declared.StringRead.the-variants.{Bits, NotBits, BufferTooShort}
-use Rattle.lines.specs.Fields.{field, bytesBetween}
+use Rattle.lines.specs.declared.StringRead.the-variants.{Packed, NotBits, BufferTooShort as NoRoom}
+use Rattle.lines.specs.Fields.{lineOf}
 
 -- the bytes 0 (48) and 1 (49)
 unfoldable pub isBit : ℕ → Bool
@@ -24,23 +25,29 @@ unfoldable pub bitsOf : List ℕ → List Bool
 bitsOf [] = []
 bitsOf (x ∷ l) = eqb x 49 ∷ bitsOf l
 
--- a reader's answer and the bytes of the lent buffer
-pub data Outcome : Type 0 where
-  leaves : StringRead → List ℕ → Outcome
-
--- The line's string packed at the front of the buffer, later bytes as they were. A line of another form, or else too short a buffer, leaves it alone.
-unfoldable pub stringInto : List ℕ → List ℕ → Outcome
-stringInto line buf =
-    cond (leb (length line) 65536 && allBits line)
-    (cond (leb (bytesFor (length line)) (length buf))
-    (leaves (Bits (length line)) (atFront (pack (bitsOf line)) buf))
-    (leaves BufferTooShort buf))
-    (leaves NotBits buf)
-
-abbrev pub stringAt : List ℕ → FieldFound → List ℕ → Outcome
-stringAt input (At a b) buf = stringInto (bytesBetween a b input) buf
-stringAt input Missing buf = leaves NotBits buf
+-- the string of a line, for a buffer of `room` bytes: 2, 9, else the string
+unfoldable pub stringOf : List ℕ → ℕ → Result (List Bool)
+stringOf line room =
+    unless (leb (length line) maxBits && allBits line) BadString (
+    unless (leb (bytesFor (length line)) room) BufferTooShort (
+    value (bitsOf line)))
 
 -- the string of line i of the input: X is line 1, Y line 2
-unfoldable pub stringIn : List ℕ → ℕ → List ℕ → Outcome
-stringIn input i buf = stringAt input (field 10 i input) buf
+unfoldable pub stringIn : List ℕ → ℕ → ℕ → Result (List Bool)
+stringIn input i room = andThen (lineOf BadString i input) (λ line. stringOf line room)
+
+-- what reading a string gives, its bit count or a refusal, and what the lent buffer holds after it
+pub record StringSaid : Type 0 where
+  pub count : Result ℕ
+  pub buffer : List ℕ
+
+-- a string is packed at the front of the buffer, later bytes are as they were; a refusal leaves the buffer as it was
+abbrev pub leavesString : List ℕ → Result (List Bool) → StringSaid
+leavesString out (refusal number) = record { count = refusal number; buffer = out }
+leavesString out (value bits) = record { count = value (length bits); buffer = atFront (pack bits) out }
+
+-- what the code's answer says, and the buffer
+abbrev pub saidString : StringRead → List ℕ → StringSaid
+saidString (Packed n) out = record { count = value n; buffer = out }
+saidString NotBits out = record { count = refusal (refusalNumber BadString); buffer = out }
+saidString NoRoom out = record { count = refusal (refusalNumber BufferTooShort); buffer = out }

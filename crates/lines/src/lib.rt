@@ -5,15 +5,20 @@ ghost use mathlib.Core.List.{[], _∷_};
 ghost use Prim.Native.Nat.{_+_, _-_, _*_, _≤_, _<_};
 ghost use lib.ListN.{length};
 ghost use Rattle.strings.specs.Bits.{writeBits, range};
-ghost use Rattle.lines.specs.Fields.{fieldEnd, field};
-ghost use Rattle.lines.specs.SettingsLine.{isDigit, decimalOf, groupOf, fiveGroups, settingsOf, settingsIn};
-ghost use Rattle.lines.specs.StringLine.{isBit, allBits, bitsOf, leaves, stringInto, stringIn};
+ghost use Rattle.lines.specs.Fields.{blankByte, fieldEnd, field};
+ghost use Rattle.lines.specs.SettingsLine.{isDigit, decimalOf, groupOf, fiveGroups, settingsOf, settingsIn, saidSettings};
+ghost use Rattle.lines.specs.StringLine.{isBit, allBits, bitsOf, stringOf, stringIn, leavesString, saidString};
+ghost use Rattle.lines.specs.code.Readings.{saidField, saidDecimal};
 ghost use Rattle.lines.specs.Printing.{Puts, hexDigit, hexOf, decimal, bitByte, bitBytes, messageLine, rowLine, lastLine, refusalLine};
 use strings::Settings;
 
+// The most characters of the settings line: as many as a line of X or Y may have, so that a program can read the three lines of any
+// input into a buffer of fixed size.
+const LONGEST_LINE: usize = strings::MAX_BITS;
+
 // Where a field of a byte list stands: its first index and the index behind its last; or there is no such field.
 pub enum FieldFound {
-    At(usize, usize),
+    Spans(usize, usize),
     Missing,
 }
 
@@ -23,6 +28,7 @@ pub enum Decimal {
     NotDecimal,
 }
 
+// What the settings line says; or it is of another form.
 pub enum SettingsRead {
     Parsed(Settings),
     Malformed,
@@ -31,7 +37,7 @@ pub enum SettingsRead {
 // What reading a line of X or Y into a lent buffer gave: the bit count of the string that was packed; or the buffer was left alone,
 // since the line is of another form, or the buffer is too short.
 pub enum StringRead {
-    Bits(usize),
+    Packed(usize),
     NotBits,
     BufferTooShort,
 }
@@ -52,7 +58,7 @@ fn field_end(s: &[u8], separator: u8, from: usize) -> usize
 
 // The field with this index, counted from 0. The lines of the input are its fields at newlines, the groups of the settings line its fields at blanks.
 fn find_field(s: &[u8], separator: u8, index: usize) -> FieldFound
-    ensures { λ r. ⌜ r ≡ field separator index (now (s .entry)) ⌝ }
+    ensures { λ r. ⌜ saidField r ≡ field separator index (now (s .entry)) ⌝ }
 {
     let mut from: usize = 0;
     let mut i = index;
@@ -64,7 +70,7 @@ fn find_field(s: &[u8], separator: u8, index: usize) -> FieldFound
         from = end + 1;
         i -= 1;
     }
-    FieldFound::At(from, field_end(s, separator, from))
+    FieldFound::Spans(from, field_end(s, separator, from))
 }
 
 fn is_digit(x: u8) -> bool
@@ -76,6 +82,7 @@ fn is_digit(x: u8) -> bool
     x <= b'9'
 }
 
+// The value of a digit: how far its byte is behind that of 0, 48.
 fn digit_value(x: u8) -> u64
     ensures { λ r. ⌜ r ≡ x - 48 ⌝ }
 {
@@ -87,7 +94,7 @@ fn digit_value(x: u8) -> u64
 
 // A decimal number: one or more digits, the highest first, leading zeros allowed, below 2^32.
 fn parse_decimal(s: &[u8]) -> Decimal
-    ensures { λ r. ⌜ r ≡ decimalOf (now (s .entry)) ⌝ }
+    ensures { λ r. ⌜ saidDecimal r ≡ decimalOf (now (s .entry)) ⌝ }
 {
     if s.len() == 0 {
         return Decimal::NotDecimal;
@@ -110,17 +117,17 @@ fn parse_decimal(s: &[u8]) -> Decimal
 
 // The number of a group of the settings line.
 fn read_group(line: &[u8], index: usize) -> Decimal
-    ensures { λ r. ⌜ r ≡ groupOf (now (line .entry)) index ⌝ }
+    ensures { λ r. ⌜ saidDecimal r ≡ groupOf (now (line .entry)) index ⌝ }
 {
     match find_field(line, b' ', index) {
         FieldFound::Missing => Decimal::NotDecimal,
-        FieldFound::At(a, b) => parse_decimal(&line[a..b]),
+        FieldFound::Spans(a, b) => parse_decimal(&line[a..b]),
     }
 }
 
 // The first five groups of the settings line.
 fn five_groups(line: &[u8]) -> SettingsRead
-    ensures { λ r. ⌜ r ≡ fiveGroups (now (line .entry)) ⌝ }
+    ensures { λ r. ⌜ saidSettings r ≡ fiveGroups (now (line .entry)) ⌝ }
 {
     let Decimal::Value(m) = read_group(line, 0) else {
         return SettingsRead::Malformed;
@@ -140,27 +147,26 @@ fn five_groups(line: &[u8]) -> SettingsRead
     SettingsRead::Parsed(Settings::new(m, h, k, key, ceiling))
 }
 
-// The settings line: five groups parted by single blanks, and no sixth. At most 65,536 characters, so that a program can read
-// three lines of any input into a buffer of fixed size.
+// The settings line: five groups parted by single blanks, and no sixth.
 fn parse_settings(line: &[u8]) -> SettingsRead
-    ensures { λ r. ⌜ r ≡ settingsOf (now (line .entry)) ⌝ }
+    ensures { λ r. ⌜ saidSettings r ≡ settingsOf (now (line .entry)) ⌝ }
 {
-    if 65536 < line.len() {
+    if LONGEST_LINE < line.len() {
         return SettingsRead::Malformed;
     }
     match find_field(line, b' ', 5) {
-        FieldFound::At(a, b) => SettingsRead::Malformed,
+        FieldFound::Spans(a, b) => SettingsRead::Malformed,
         FieldFound::Missing => five_groups(line),
     }
 }
 
 // The settings of the input: its first line.
 pub fn read_settings(input: &[u8]) -> SettingsRead
-    ensures { λ r. ⌜ r ≡ settingsIn (now (input .entry)) ⌝ }
+    ensures { λ r. ⌜ saidSettings r ≡ settingsIn (now (input .entry)) ⌝ }
 {
     match find_field(input, b'\n', 0) {
         FieldFound::Missing => SettingsRead::Malformed,
-        FieldFound::At(a, b) => parse_settings(&input[a..b]),
+        FieldFound::Spans(a, b) => parse_settings(&input[a..b]),
     }
 }
 
@@ -201,10 +207,10 @@ fn write_line(s: &[u8], out: &mut [u8])
 
 // A line of zeros and ones, at most 65,536, is packed at the front of the buffer. Nothing is written before the whole line was checked.
 fn parse_bits(s: &[u8], out: &mut [u8]) -> StringRead
-    ensures { λ r. ⌜ leaves r (now (out .exit)) ≡ stringInto (now (s .entry)) (now (out .entry)) ⌝ }
+    ensures { λ r. ⌜ saidString r (now (out .exit)) ≡ leavesString (now (out .entry)) (stringOf (now (s .entry)) (length (now (out .entry)))) ⌝ }
 {
     let n = s.len();
-    if 65536 < n {
+    if strings::MAX_BITS < n {
         return StringRead::NotBits;
     }
     if !only_bits(s) {
@@ -216,16 +222,16 @@ fn parse_bits(s: &[u8], out: &mut [u8]) -> StringRead
     }
     strings::clear_bytes(out, 0, size);
     write_line(s, out);
-    StringRead::Bits(n)
+    StringRead::Packed(n)
 }
 
 // The string of a line of the input, lines counted from 0; a missing line is of another form.
 pub fn read_string(input: &[u8], index: usize, out: &mut [u8]) -> StringRead
-    ensures { λ r. ⌜ leaves r (now (out .exit)) ≡ stringIn (now (input .entry)) index (now (out .entry)) ⌝ }
+    ensures { λ r. ⌜ saidString r (now (out .exit)) ≡ leavesString (now (out .entry)) (stringIn (now (input .entry)) index (length (now (out .entry)))) ⌝ }
 {
     match find_field(input, b'\n', index) {
         FieldFound::Missing => StringRead::NotBits,
-        FieldFound::At(a, b) => parse_bits(&input[a..b], out),
+        FieldFound::Spans(a, b) => parse_bits(&input[a..b], out),
     }
 }
 
@@ -244,9 +250,9 @@ fn hex_digit(d: u8) -> u8
     ensures { λ r. ⌜ r ≡ hexDigit d ⌝ }
 {
     if d < 10 {
-        return 48 + d;
+        return b'0' + d;
     }
-    87 + d
+    b'a' + (d - 10)
 }
 
 // The bytes in hexadecimal.
@@ -272,11 +278,11 @@ fn put_decimal(out: &mut [u8], at: usize, v: u32) -> usize
     ensures { λ r. ⌜ Puts (now (out .entry)) at (decimal v) (now (out .exit)) r ⌝ }
 {
     if v < 10 {
-        out[at] = (48 + v) as u8;
+        out[at] = b'0' + (v as u8);
         return at + 1;
     }
     let last = put_decimal(out, at, v / 10);
-    out[last] = (48 + v % 10) as u8;
+    out[last] = b'0' + ((v % 10) as u8);
     last + 1
 }
 
@@ -306,7 +312,7 @@ fn put_bits(out: &mut [u8], at: usize, s: &[u8], n: usize) -> usize
 // A blank and a number in decimal.
 fn put_next(out: &mut [u8], at: usize, v: u32) -> usize
     requires { ⌜ at + 11 ≤ length (now out) ⌝ }
-    ensures { λ r. ⌜ Puts (now (out .entry)) at (32 ∷ decimal v) (now (out .exit)) r ⌝ }
+    ensures { λ r. ⌜ Puts (now (out .entry)) at (blankByte ∷ decimal v) (now (out .exit)) r ⌝ }
 {
     let a = put_byte(out, at, b' ');
     put_decimal(out, a, v)
@@ -315,7 +321,7 @@ fn put_next(out: &mut [u8], at: usize, v: u32) -> usize
 // A letter and a blank.
 fn put_letter(out: &mut [u8], at: usize, letter: u8) -> usize
     requires { ⌜ at + 2 ≤ length (now out) ⌝ }
-    ensures { λ r. ⌜ Puts (now (out .entry)) at (letter ∷ 32 ∷ []) (now (out .exit)) r ⌝ }
+    ensures { λ r. ⌜ Puts (now (out .entry)) at (letter ∷ blankByte ∷ []) (now (out .exit)) r ⌝ }
 {
     let a = put_byte(out, at, letter);
     put_byte(out, a, b' ')

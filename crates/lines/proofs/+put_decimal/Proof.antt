@@ -22,17 +22,17 @@ abbrev put-decimal-below : ℕ → In 1 put-decimal-kinds.ps
 put-decimal-below t =
     and 1 put-decimal-kinds.ps (falls 1 put-decimal-kinds.ps _<_ μ-put-decimal t) put-decimal.Pre
 
-put-decimal-add-out : (t : ℕ) → put-decimal-lts.Need-add-out (
-  put-decimal-below t,
-  put-decimal.Post,
-) (put-decimal-at t) put-decimal.Post
-put-decimal-add-out t c = search needs
-
 put-decimal-cast-out : (t : ℕ) → put-decimal-lts.Need-cast-out (
   put-decimal-below t,
   put-decimal.Post,
 ) (put-decimal-at t) put-decimal.Post
 put-decimal-cast-out t c = search needs
+
+put-decimal-add-out : (t : ℕ) → put-decimal-lts.Need-add-out (
+  put-decimal-below t,
+  put-decimal.Post,
+) (put-decimal-at t) put-decimal.Post
+put-decimal-add-out t c = search needs
 
 put-decimal-slice-write-out : (t : ℕ) → put-decimal-lts.Need-slice-write-out (
   put-decimal-below t,
@@ -64,17 +64,17 @@ put-decimal-put-decimal-requires : (t : ℕ) → put-decimal-lts.Need-put-decima
 ) (put-decimal-at t) put-decimal.Post
 put-decimal-put-decimal-requires t c κs = let s = c .before .before .before in let n = length-high (s .args .v) (c .before .if1 .left) (search needs) in let e = s .pre .0 in let p = s .pre .1 in (omega arith, omega arith)
 
-put-decimal-add-out-2 : (t : ℕ) → put-decimal-lts.Need-add-out-2 (
-  put-decimal-below t,
-  put-decimal.Post,
-) (put-decimal-at t) put-decimal.Post
-put-decimal-add-out-2 t c = search needs
-
 put-decimal-cast-out-2 : (t : ℕ) → put-decimal-lts.Need-cast-out-2 (
   put-decimal-below t,
   put-decimal.Post,
 ) (put-decimal-at t) put-decimal.Post
 put-decimal-cast-out-2 t c = search needs
+
+put-decimal-add-out-2 : (t : ℕ) → put-decimal-lts.Need-add-out-2 (
+  put-decimal-below t,
+  put-decimal.Post,
+) (put-decimal-at t) put-decimal.Post
+put-decimal-add-out-2 t c = search needs
 
 put-decimal-slice-write-out-2 : (t : ℕ) → put-decimal-lts.Need-slice-write-out-2 (
   put-decimal-below t,
@@ -107,15 +107,15 @@ pub +put-decimal-spec : {M : Type 1} → statement M
 )
     (put-decimal-at t)
     put-decimal.Post
-    (put-decimal-add-out t)
     (put-decimal-cast-out t)
+    (put-decimal-add-out t)
     (put-decimal-slice-write-out t)
     (put-decimal-add-result t)
     (put-decimal-same-length t)
     (put-decimal-returns t)
     (put-decimal-put-decimal-requires t)
-    (put-decimal-add-out-2 t)
     (put-decimal-cast-out-2 t)
+    (put-decimal-add-out-2 t)
     (put-decimal-slice-write-out-2 t)
     (put-decimal-add-result-2 t)
     (put-decimal-same-length-2 t)

@@ -1,5 +1,5 @@
 use mathlib.Core.Path.{ap, _∙_}
-use Rattle.lines.specs.declared.SettingsRead.the-variants.{Parsed}
+use Rattle.strings.specs.Results.{value}
 use Rattle.lines.specs.laws.SettingsLaws.{Groups, no-group-read, group-none, group-read}
 use borrow.Author.Needs.{needs}
 use Rattle.lines.proofs.five_groups.Statement.{statement}
@@ -85,7 +85,7 @@ new-requires : tie.Need-new-requires
 new-requires c κs = search needs
 
 returns-6 : tie.Need-returns-6
-returns-6 c = ap Parsed (c .new .ensures) ∙ ceiling-read (c .before .before) .so
+returns-6 c = ap value (c .new .ensures) ∙ ceiling-read (c .before .before) .so
 
 pub five-groups-spec : {M : Type 1} → statement M
 five-groups-spec =

@@ -1,4 +1,5 @@
 use mathlib.Core.Path.{_∙_}
+use Rattle.lines.specs.Fields.{blankByte}
 use Rattle.lines.specs.laws.FieldLaws.{field-within}
 use Rattle.lines.specs.laws.SettingsLaws.{group-missing, group-found}
 use borrow.Author.Needs.{needs}
@@ -15,13 +16,13 @@ enum-known-a : tie.Need-enum-known-a
 enum-known-a c = search needs
 
 sub-parse-decimal : tie.Need-sub-parse-decimal
-sub-parse-decimal c = field-within 32 (c .before .before .before .before .before .args .line .now) (c .before .before .before .before .before .args .index) _ _ (c .before .before .before .find-field .ensures) (c .before .a .given .1) .0
+sub-parse-decimal c = field-within blankByte (c .before .before .before .before .before .args .line .now) (c .before .before .before .before .before .args .index) _ _ (c .before .before .before .find-field .ensures) (c .before .a .given .1) .0
 
 part-parse-decimal-start : tie.Need-part-parse-decimal-start
-part-parse-decimal-start c = field-within 32 (c .before .before .before .before .before .args .line .now) (c .before .before .before .before .before .args .index) _ _ (c .before .before .before .find-field .ensures) (c .before .a .given .1) .0
+part-parse-decimal-start c = field-within blankByte (c .before .before .before .before .before .args .line .now) (c .before .before .before .before .before .args .index) _ _ (c .before .before .before .find-field .ensures) (c .before .a .given .1) .0
 
 part-parse-decimal-end : tie.Need-part-parse-decimal-end
-part-parse-decimal-end c = field-within 32 (c .before .before .before .before .before .args .line .now) (c .before .before .before .before .before .args .index) _ _ (c .before .before .before .find-field .ensures) (c .before .a .given .1) .1
+part-parse-decimal-end c = field-within blankByte (c .before .before .before .before .before .args .line .now) (c .before .before .before .before .before .args .index) _ _ (c .before .before .before .find-field .ensures) (c .before .a .given .1) .1
 
 parse-decimal-requires : tie.Need-parse-decimal-requires
 parse-decimal-requires c κs = search needs

@@ -1,4 +1,5 @@
 use mathlib.Core.Path.{_∙_}
+use Rattle.lines.specs.Fields.{newlineByte}
 use Rattle.lines.specs.laws.FieldLaws.{field-within}
 use Rattle.lines.specs.laws.SettingsLaws.{settings-missing, settings-found}
 use borrow.Author.Needs.{needs}
@@ -15,13 +16,13 @@ enum-known-a : tie.Need-enum-known-a
 enum-known-a c = search needs
 
 sub-parse-settings : tie.Need-sub-parse-settings
-sub-parse-settings c = field-within 10 (c .before .before .before .before .before .args .input .now) 0 _ _ (c .before .before .before .find-field .ensures) (c .before .a .given .1) .0
+sub-parse-settings c = field-within newlineByte (c .before .before .before .before .before .args .input .now) 0 _ _ (c .before .before .before .find-field .ensures) (c .before .a .given .1) .0
 
 part-parse-settings-start : tie.Need-part-parse-settings-start
-part-parse-settings-start c = field-within 10 (c .before .before .before .before .before .args .input .now) 0 _ _ (c .before .before .before .find-field .ensures) (c .before .a .given .1) .0
+part-parse-settings-start c = field-within newlineByte (c .before .before .before .before .before .args .input .now) 0 _ _ (c .before .before .before .find-field .ensures) (c .before .a .given .1) .0
 
 part-parse-settings-end : tie.Need-part-parse-settings-end
-part-parse-settings-end c = field-within 10 (c .before .before .before .before .before .args .input .now) 0 _ _ (c .before .before .before .find-field .ensures) (c .before .a .given .1) .1
+part-parse-settings-end c = field-within newlineByte (c .before .before .before .before .before .args .input .now) 0 _ _ (c .before .before .before .find-field .ensures) (c .before .a .given .1) .1
 
 parse-settings-requires : tie.Need-parse-settings-requires
 parse-settings-requires c κs = search needs

@@ -2,15 +2,14 @@
 use mathlib.Core.Path.{_≡_, refl}
 use mathlib.Core.Bool.{true, false}
 use mathlib.Core.List.{List, [], _∷_}
+use mathlib.Core.Option.{none, some, bind}
 use Prim.Native.Nat.{ℕ}
+use lib.ListN.{length}
 use Rattle.strings.specs.Bits.{bitAt, flipped, setBit, writeBits, pack}
-use Rattle.lines.specs.declared.FieldFound.the-variants.{At, Missing}
-use Rattle.lines.specs.declared.Decimal.the-variants.{Value, NotDecimal}
-use Rattle.lines.specs.declared.SettingsRead.the-variants.{Parsed, Malformed}
-use Rattle.lines.specs.declared.StringRead.the-variants.{Bits, NotBits}
+use Rattle.strings.specs.Results.{refusal, value}
 use Rattle.lines.specs.Fields.{beforeFirst, fieldEnd, fieldFrom, field}
 use Rattle.lines.specs.SettingsLine.{isDigit, allDigits, valueFrom, decimalOf, groupOf, fiveGroups, settingsOf, settingsIn}
-use Rattle.lines.specs.StringLine.{isBit, allBits, bitsOf, leaves, stringInto, stringIn}
+use Rattle.lines.specs.StringLine.{isBit, allBits, bitsOf, stringOf, stringIn, leavesString}
 use Rattle.lines.specs.Printing.{hexDigit, hexOf, digitsIn, decimal, bitBytes, messageLine, rowLine, lastLine, refusalLine}
 
 -- the three lines `8 8 1 1 100`, `1011`, `101`
@@ -21,16 +20,16 @@ input =
     ∷ 49 ∷ 48 ∷ 49 ∷ 10 ∷ []
 
 -- a lent buffer of two bytes
-abbrev buffer : List ℕ
-buffer = 7 ∷ 7 ∷ []
+abbrev lent : List ℕ
+lent = 7 ∷ 7 ∷ []
 
 pub record ExampleRead : Type 0 where
-  pub settings : settingsIn input ≡ Parsed (record { m = 8; h = 8; k = 1; key = 1; ceiling = 100 })
-  pub x : stringIn input 1 buffer ≡ leaves (Bits 4) (0xb0 ∷ 7 ∷ [])
-  pub y : stringIn input 2 buffer ≡ leaves (Bits 3) (0xa0 ∷ 7 ∷ [])
+  pub settings : settingsIn input ≡ value (record { m = 8; h = 8; k = 1; key = 1; ceiling = 100 })
+  pub x : leavesString lent (stringIn input 1 (length lent)) ≡ record { count = value 4; buffer = 0xb0 ∷ 7 ∷ [] }
+  pub y : leavesString lent (stringIn input 2 (length lent)) ≡ record { count = value 3; buffer = 0xa0 ∷ 7 ∷ [] }
 
 pub example-read : ExampleRead
-unfolding field fieldFrom fieldEnd beforeFirst settingsIn settingsOf fiveGroups groupOf decimalOf valueFrom allDigits isDigit stringIn stringInto allBits isBit bitsOf pack writeBits setBit flipped bitAt
+unfolding field fieldFrom fieldEnd beforeFirst settingsIn settingsOf fiveGroups groupOf bind decimalOf valueFrom allDigits isDigit stringIn stringOf allBits isBit bitsOf pack writeBits setBit flipped bitAt
 example-read = record { settings = refl; x = refl; y = refl }
 
 -- the lines that 01 prints for it, each followed by its bytes
@@ -54,39 +53,44 @@ example-printed = record { opening = refl; size = refl; question = refl; answer 
 
 pub record Edges : Type 0 where
   -- `1`, newline, `0`: line 1 ends at the end of input, and there is no line 2
-  pub unended : field 10 1 (49 ∷ 10 ∷ 48 ∷ []) ≡ At 2 3
-  pub missing : field 10 2 (49 ∷ 10 ∷ 48 ∷ []) ≡ Missing
+  pub unended : field 10 1 (49 ∷ 10 ∷ 48 ∷ []) ≡ some (2, 3)
+  pub missing : field 10 2 (49 ∷ 10 ∷ 48 ∷ []) ≡ none
+  pub missing-string : stringIn (49 ∷ 10 ∷ 48 ∷ []) 2 (length lent) ≡ refusal 2
   -- with a newline behind line 1, line 2 is there and empty: the empty string
-  pub empty : stringIn (49 ∷ 10 ∷ 48 ∷ 10 ∷ []) 2 buffer ≡ leaves (Bits 0) buffer
+  pub empty : leavesString lent (stringIn (49 ∷ 10 ∷ 48 ∷ 10 ∷ []) 2 (length lent)) ≡ record { count = value 0; buffer = lent }
   -- a carriage return is no bit
-  pub carriage-return : stringInto (49 ∷ 13 ∷ []) buffer ≡ leaves NotBits buffer
+  pub carriage-return : leavesString lent (stringOf (49 ∷ 13 ∷ []) (length lent)) ≡ record { count = refusal 2; buffer = lent }
+  -- nine bits take two bytes
+  pub no-room : stringOf (49 ∷ 49 ∷ 49 ∷ 49 ∷ 49 ∷ 49 ∷ 49 ∷ 49 ∷ 49 ∷ []) 1 ≡ refusal 9
   -- `0012` is 12; no digit at all, and a sign, make no number
-  pub leading-zeros : decimalOf (48 ∷ 48 ∷ 49 ∷ 50 ∷ []) ≡ Value 12
-  pub no-digit : decimalOf [] ≡ NotDecimal
-  pub sign : decimalOf (43 ∷ 49 ∷ []) ≡ NotDecimal
+  pub leading-zeros : decimalOf (48 ∷ 48 ∷ 49 ∷ 50 ∷ []) ≡ some 12
+  pub no-digit : decimalOf [] ≡ none
+  pub sign : decimalOf (43 ∷ 49 ∷ []) ≡ none
   -- 4294967295, 4294967296
-  pub largest : decimalOf (52 ∷ 50 ∷ 57 ∷ 52 ∷ 57 ∷ 54 ∷ 55 ∷ 50 ∷ 57 ∷ 53 ∷ []) ≡ Value 4294967295
-  pub too-large : decimalOf (52 ∷ 50 ∷ 57 ∷ 52 ∷ 57 ∷ 54 ∷ 55 ∷ 50 ∷ 57 ∷ 54 ∷ []) ≡ NotDecimal
+  pub largest : decimalOf (52 ∷ 50 ∷ 57 ∷ 52 ∷ 57 ∷ 54 ∷ 55 ∷ 50 ∷ 57 ∷ 53 ∷ []) ≡ some 4294967295
+  pub too-large : decimalOf (52 ∷ 50 ∷ 57 ∷ 52 ∷ 57 ∷ 54 ∷ 55 ∷ 50 ∷ 57 ∷ 54 ∷ []) ≡ none
   -- `1 2 3 4 5`; two blanks behind the 1; a blank behind the 5; a blank before the 1; four numbers
-  pub five : settingsOf (49 ∷ 32 ∷ 50 ∷ 32 ∷ 51 ∷ 32 ∷ 52 ∷ 32 ∷ 53 ∷ []) ≡ Parsed (record { m = 1; h = 2; k = 3; key = 4; ceiling = 5 })
-  pub two-blanks : settingsOf (49 ∷ 32 ∷ 32 ∷ 50 ∷ 32 ∷ 51 ∷ 32 ∷ 52 ∷ 32 ∷ 53 ∷ []) ≡ Malformed
-  pub blank-behind : settingsOf (49 ∷ 32 ∷ 50 ∷ 32 ∷ 51 ∷ 32 ∷ 52 ∷ 32 ∷ 53 ∷ 32 ∷ []) ≡ Malformed
-  pub blank-before : settingsOf (32 ∷ 49 ∷ 32 ∷ 50 ∷ 32 ∷ 51 ∷ 32 ∷ 52 ∷ 32 ∷ 53 ∷ []) ≡ Malformed
-  pub four : settingsOf (49 ∷ 32 ∷ 50 ∷ 32 ∷ 51 ∷ 32 ∷ 52 ∷ []) ≡ Malformed
+  pub five : settingsOf (49 ∷ 32 ∷ 50 ∷ 32 ∷ 51 ∷ 32 ∷ 52 ∷ 32 ∷ 53 ∷ []) ≡ value (record { m = 1; h = 2; k = 3; key = 4; ceiling = 5 })
+  pub two-blanks : settingsOf (49 ∷ 32 ∷ 32 ∷ 50 ∷ 32 ∷ 51 ∷ 32 ∷ 52 ∷ 32 ∷ 53 ∷ []) ≡ refusal 1
+  pub blank-behind : settingsOf (49 ∷ 32 ∷ 50 ∷ 32 ∷ 51 ∷ 32 ∷ 52 ∷ 32 ∷ 53 ∷ 32 ∷ []) ≡ refusal 1
+  pub blank-before : settingsOf (32 ∷ 49 ∷ 32 ∷ 50 ∷ 32 ∷ 51 ∷ 32 ∷ 52 ∷ 32 ∷ 53 ∷ []) ≡ refusal 1
+  pub four : settingsOf (49 ∷ 32 ∷ 50 ∷ 32 ∷ 51 ∷ 32 ∷ 52 ∷ []) ≡ refusal 1
   -- the empty string is printed as nothing between two blanks
   pub empty-string : lastLine [] 0 0 ≡ 88 ∷ 32 ∷ 32 ∷ 48 ∷ 32 ∷ 48 ∷ 10 ∷ []
   pub ten-digits : decimal 4294967295 ≡ 52 ∷ 50 ∷ 57 ∷ 52 ∷ 57 ∷ 54 ∷ 55 ∷ 50 ∷ 57 ∷ 53 ∷ []
   -- R 1
-  pub refusal : refusalLine 1 ≡ 82 ∷ 32 ∷ 49 ∷ 10 ∷ []
+  pub refused : refusalLine 1 ≡ 82 ∷ 32 ∷ 49 ∷ 10 ∷ []
 
 pub edges : Edges
-unfolding field fieldFrom fieldEnd beforeFirst settingsOf fiveGroups groupOf decimalOf valueFrom allDigits isDigit stringIn stringInto allBits isBit bitsOf pack writeBits lastLine refusalLine decimal digitsIn bitBytes
+unfolding field fieldFrom fieldEnd beforeFirst settingsOf fiveGroups groupOf bind decimalOf valueFrom allDigits isDigit stringIn stringOf allBits isBit bitsOf pack writeBits lastLine refusalLine decimal digitsIn bitBytes
 edges =
     record {
       unended = refl;
       missing = refl;
+      missing-string = refl;
       empty = refl;
       carriage-return = refl;
+      no-room = refl;
       leading-zeros = refl;
       no-digit = refl;
       sign = refl;
@@ -99,5 +103,5 @@ edges =
       four = refl;
       empty-string = refl;
       ten-digits = refl;
-      refusal = refl;
+      refused = refl;
     }

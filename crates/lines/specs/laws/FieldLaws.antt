@@ -1,7 +1,8 @@
 -- Laws of fields, as the loops that look for them meet them.
-use mathlib.Core.Path.{_≡_, refl, sym, _∙_}
+use mathlib.Core.Path.{_≡_, refl, sym, ap, _∙_}
 use mathlib.Core.Bool.{Bool, true, false, cond}
 use mathlib.Core.List.{List, [], _∷_}
+use mathlib.Core.Option.{none, some, Option·some-injective, Option·none-ne-some}
 use Prim.Native.Nat.{ℕ, zero, suc, _+_, _-_, _≤_, _<_}
 use native.Mathlib.Numerals.{add-one}
 use native.Mathlib.Omega.{arith}
@@ -10,8 +11,9 @@ use lib.Seq.{drop-cons}
 use lib.Dec.{eqb, ltb}
 use borrow.Author.Tests.{eq-eqb, ne-eqb, lt-ltb, le-ltb, ltb-true}
 use Rattle.lines.specs.declared.FieldFound.{FieldFound}
-use Rattle.lines.specs.declared.FieldFound.the-variants.{At, Missing}
+use Rattle.lines.specs.declared.FieldFound.the-variants.{Spans}
 use Rattle.lines.specs.Fields.{beforeFirst, fieldEnd, fieldFrom, field}
+use Rattle.lines.specs.code.Readings.{saidField}
 
 before-most : (sep : ℕ) (l : List ℕ) → beforeFirst sep l ≤ length l
 unfolding beforeFirst
@@ -44,12 +46,12 @@ module _ (sep : ℕ) (s : List ℕ) where
   end-most from h = let m = before-most sep (drop from s) in let l = length-drop from s in omega arith
 
   -- ---- one field after another, e being where the field from `from` on ends
-  pub found-here : (i from e : ℕ) → i ≤ 0 → e ≡ fieldEnd sep s from → At from e ≡ fieldFrom sep i s from
+  pub found-here : (i from e : ℕ) → i ≤ 0 → e ≡ fieldEnd sep s from → some (from, e) ≡ fieldFrom sep i s from
   unfolding fieldFrom
   found-here zero from e h p = rw p refl
   found-here (suc i) from e h p = absurd (omega arith)
 
-  pub found-missing : (i from e : ℕ) → 0 < i → e ≡ fieldEnd sep s from → length s ≤ e → Missing ≡ fieldFrom sep i s from
+  pub found-missing : (i from e : ℕ) → 0 < i → e ≡ fieldEnd sep s from → length s ≤ e → none ≡ fieldFrom sep i s from
   unfolding fieldFrom
   found-missing zero from e h p q = absurd (omega arith)
   found-missing (suc i) from e h p q = rw (← p, le-ltb e (length s) q) refl
@@ -62,22 +64,23 @@ module _ (sep : ℕ) (s : List ℕ) where
       rw (k, ← p, lt-ltb e (length s) q, add-one) refl
 
   -- a field lies within the list
-  from-within : (i from a b : ℕ) → from ≤ length s → fieldFrom sep i s from ≡ At a b → (a ≤ b) × (b ≤ length s)
+  from-within : (i from a b : ℕ) → from ≤ length s → fieldFrom sep i s from ≡ some (a, b) → (a ≤ b) × (b ≤ length s)
   unfolding fieldFrom
   from-within zero from a b h e =
-      let p : from ≡ a = cc in
-      let q : fieldEnd sep s from ≡ b = cc in
+      let pair = Option·some-injective (from, fieldEnd sep s from) (a, b) e in
+      let p : from ≡ a = ap (λ (w : ℕ × ℕ). w .0) pair in
+      let q : fieldEnd sep s from ≡ b = ap (λ (w : ℕ × ℕ). w .1) pair in
       let l = end-from from in
       let m = end-most from h in
       (omega arith, omega arith)
   from-within (suc i) from a b h e = go (ltb (fieldEnd sep s from) (length s)) refl (from-within i (suc (fieldEnd sep s from)) a b) e
     where
       go : (t : Bool) → ltb (fieldEnd sep s from) (length s) ≡ t
-          → (suc (fieldEnd sep s from) ≤ length s → fieldFrom sep i s (suc (fieldEnd sep s from)) ≡ At a b → (a ≤ b) × (b ≤ length s))
-          → cond t (fieldFrom sep i s (suc (fieldEnd sep s from))) Missing ≡ At a b → (a ≤ b) × (b ≤ length s)
+          → (suc (fieldEnd sep s from) ≤ length s → fieldFrom sep i s (suc (fieldEnd sep s from)) ≡ some (a, b) → (a ≤ b) × (b ≤ length s))
+          → cond t (fieldFrom sep i s (suc (fieldEnd sep s from))) none ≡ some (a, b) → (a ≤ b) × (b ≤ length s)
       go true p f e = let q = ltb-true (fieldEnd sep s from) (length s) p in f (omega arith) e
-      go false p f e = let z : _≡_ {A = ℕ} 0 1 = cc in absurd (omega arith)
+      go false p f e = absurd (Option·none-ne-some (a, b) e)
 
-  pub field-within : (i a b : ℕ) {r : FieldFound} → r ≡ field sep i s → r ≡ At a b → (a ≤ b) × (b ≤ length s)
+  pub field-within : (i a b : ℕ) {r : FieldFound} → saidField r ≡ field sep i s → r ≡ Spans a b → (a ≤ b) × (b ≤ length s)
   unfolding field
-  field-within i a b p q = from-within i 0 a b (omega arith) (sym p ∙ q)
+  field-within i a b p q = from-within i 0 a b (omega arith) (sym p ∙ ap saidField q)

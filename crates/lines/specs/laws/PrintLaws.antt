@@ -2,7 +2,7 @@
 use mathlib.Core.Path.{_≡_, refl, sym, ap, _∙_}
 use mathlib.Core.Bool.{Bool, true, false, cond}
 use mathlib.Core.List.{List, [], _∷_, _++_}
-use Prim.Native.Nat.{ℕ, zero, suc, _+_, _*_, _/_, _%_, _^_, _≤_, _<_}
+use Prim.Native.Nat.{ℕ, zero, suc, _+_, _-_, _*_, _/_, _%_, _^_, _≤_, _<_}
 use native.Mathlib.Nat.{zero-add, pow-suc}
 use native.Mathlib.Numerals.{add-one}
 use native.Mathlib.Omega.{arith}
@@ -13,6 +13,7 @@ use borrow.Author.Tests.{lt-ltb, le-ltb}
 use Rattle.strings.specs.Bits.{bitAt, range}
 use Rattle.strings.specs.laws.RangeLaws.{rest, rest-is, rest-last, range-length}
 use Rattle.strings.specs.laws.StoreLaws.{sets-append}
+use Rattle.lines.specs.Fields.{newlineByte, blankByte}
 use Rattle.lines.specs.Printing.{Puts, hexDigit, hexOf, digitsIn, decimal, bitByte, bitBytes, messageLine, rowLine, lastLine, refusalLine}
 
 -- bytes written one behind the other
@@ -28,7 +29,7 @@ pub hex-low : (d : ℕ) → d < 10 → 48 + d ≡ hexDigit d
 unfolding hexDigit
 hex-low d h = rw (lt-ltb d 10 h) refl
 
-pub hex-high : (d : ℕ) → 10 ≤ d → 87 + d ≡ hexDigit d
+pub hex-high : (d : ℕ) → 10 ≤ d → 97 + (d - 10) ≡ hexDigit d
 unfolding hexDigit
 hex-high d h = rw (le-ltb d 10 h) refl
 
@@ -132,29 +133,29 @@ text-whole s buf t n at f =
 -- ---- how long the lines are
 pub length-message-line : (letter : ℕ) (message : List ℕ) → length (messageLine letter message) ≡ 3 + 2 * length message
 unfolding messageLine
-length-message-line letter message = let a = length-append (hexOf message) (10 ∷ []) in let b = length-hex message in omega arith
+length-message-line letter message = let a = length-append (hexOf message) (newlineByte ∷ []) in let b = length-hex message in omega arith
 
 -- a blank, a number and what follows
-length-next : (v : ℕ) (l : List ℕ) → length (32 ∷ (decimal v ++ l)) ≤ 11 + length l
+length-next : (v : ℕ) (l : List ℕ) → length (blankByte ∷ (decimal v ++ l)) ≤ 11 + length l
 length-next v l = let a = length-append (decimal v) l in let b = length-decimal v in omega arith
 
 pub length-last-line : (s : List ℕ) (n questions counted : ℕ) → length (lastLine (range s 0 n) questions counted) ≤ n + 25
 unfolding lastLine
 length-last-line s n questions counted =
-    let a = length-next counted (10 ∷ []) in
-    let b = length-next questions (32 ∷ (decimal counted ++ (10 ∷ []))) in
-    let c = length-append (bitBytes (range s 0 n)) (32 ∷ (decimal questions ++ (32 ∷ (decimal counted ++ (10 ∷ []))))) in
+    let a = length-next counted (newlineByte ∷ []) in
+    let b = length-next questions (blankByte ∷ (decimal counted ++ (newlineByte ∷ []))) in
+    let c = length-append (bitBytes (range s 0 n)) (blankByte ∷ (decimal questions ++ (blankByte ∷ (decimal counted ++ (newlineByte ∷ []))))) in
     let d = length-text s n in
     omega arith
 
 pub length-row-line : (start len how : ℕ) → length (rowLine start len how) ≤ 35
 unfolding rowLine
 length-row-line start len how =
-    let a = length-next how (10 ∷ []) in
-    let b = length-next len (32 ∷ (decimal how ++ (10 ∷ []))) in
-    let c = length-next start (32 ∷ (decimal len ++ (32 ∷ (decimal how ++ (10 ∷ []))))) in
+    let a = length-next how (newlineByte ∷ []) in
+    let b = length-next len (blankByte ∷ (decimal how ++ (newlineByte ∷ []))) in
+    let c = length-next start (blankByte ∷ (decimal len ++ (blankByte ∷ (decimal how ++ (newlineByte ∷ []))))) in
     omega arith
 
 pub length-refusal-line : (number : ℕ) → length (refusalLine number) ≤ 13
 unfolding refusalLine
-length-refusal-line number = let a = length-next number (10 ∷ []) in omega arith
+length-refusal-line number = let a = length-next number (newlineByte ∷ []) in omega arith

@@ -8,14 +8,15 @@ use lib.ListN.{length, getD, drop, drop-of-length-le}
 use lib.Seq.{drop-cons}
 use lib.Dec.{eqb}
 use borrow.Author.Tests.{eq-eqb, ne-eqb, lt-leb, le-leb}
-use Rattle.strings.specs.Bits.{bytesFor, pack, setBit, writeBits, cleared, atFront}
+use Rattle.strings.specs.Bits.{maxBits, bytesFor, pack, setBit, writeBits, cleared, atFront}
 use Rattle.strings.specs.laws.WriteLaws.{write-none, write-next}
 use Rattle.strings.specs.laws.PackLaws.{packed-into}
 use Rattle.lines.specs.declared.FieldFound.{FieldFound}
-use Rattle.lines.specs.declared.FieldFound.the-variants.{At, Missing}
-use Rattle.lines.specs.declared.StringRead.the-variants.{Bits, NotBits, BufferTooShort}
-use Rattle.lines.specs.Fields.{field, bytesBetween}
-use Rattle.lines.specs.StringLine.{isBit, allBits, bitsOf, leaves, stringInto, stringIn}
+use Rattle.lines.specs.declared.FieldFound.the-variants.{Spans, Missing}
+use Rattle.lines.specs.declared.StringRead.the-variants.{Packed, NotBits, BufferTooShort}
+use Rattle.lines.specs.Fields.{newlineByte, field, bytesBetween}
+use Rattle.lines.specs.StringLine.{isBit, allBits, bitsOf, stringOf, stringIn, leavesString, saidString}
+use Rattle.lines.specs.code.Readings.{saidField}
 
 pub bit-zero : (x : ℕ) → x ≡ 48 → true ≡ isBit x
 unfolding isBit
@@ -58,35 +59,35 @@ unfolding bitsOf
 length-bits [] = refl
 length-bits (x ∷ l) = ap suc (length-bits l)
 
--- ---- the string of a line
+-- ---- the string of a line, read into the buffer buf
 module _ (line buf : List ℕ) where
-  pub string-long : 65536 < length line → leaves NotBits buf ≡ stringInto line buf
-  unfolding stringInto
-  string-long h = rw (lt-leb (length line) 65536 h) refl
+  pub string-long : maxBits < length line → saidString NotBits buf ≡ leavesString buf (stringOf line (length buf))
+  unfolding stringOf
+  string-long h = rw (lt-leb (length line) maxBits h) refl
 
-  module _ (few : length line ≤ 65536) {t : Bool} (d : t ≡ allBits line) where
-    pub string-other : t ≡ false → leaves NotBits buf ≡ stringInto line buf
-    unfolding stringInto
-    string-other e = rw (le-leb (length line) 65536 few, ← d, e) refl
+  module _ (few : length line ≤ maxBits) {t : Bool} (d : t ≡ allBits line) where
+    pub string-other : t ≡ false → saidString NotBits buf ≡ leavesString buf (stringOf line (length buf))
+    unfolding stringOf
+    string-other e = rw (le-leb (length line) maxBits few, ← d, e) refl
 
-    pub string-short : t ≡ true → length buf < bytesFor (length line) → leaves BufferTooShort buf ≡ stringInto line buf
-    unfolding stringInto
-    string-short e h = rw (le-leb (length line) 65536 few, ← d, e, lt-leb (bytesFor (length line)) (length buf) h) refl
+    pub string-short : t ≡ true → length buf < bytesFor (length line) → saidString BufferTooShort buf ≡ leavesString buf (stringOf line (length buf))
+    unfolding stringOf
+    string-short e h = rw (le-leb (length line) maxBits few, ← d, e, lt-leb (bytesFor (length line)) (length buf) h) refl
 
     pub string-packed : t ≡ true → bytesFor (length line) ≤ length buf → (u w : List ℕ) → u ≡ cleared buf 0 (bytesFor (length line)) → w ≡ writeBits u 0 (bitsOf line)
-        → leaves (Bits (length line)) w ≡ stringInto line buf
-    unfolding stringInto
+        → saidString (Packed (length line)) w ≡ leavesString buf (stringOf line (length buf))
+    unfolding stringOf
     string-packed e h u w f g =
-        rw (le-leb (length line) 65536 few, ← d, e, le-leb (bytesFor (length line)) (length buf) h) (ap (leaves (Bits (length line))) whole)
+        rw (le-leb (length line) maxBits few, ← d, e, le-leb (bytesFor (length line)) (length buf) h) (ap₂ (λ (n : ℕ) (l : List ℕ). saidString (Packed n) l) (sym (length-bits line)) whole)
       where
         whole : w ≡ atFront (pack (bitsOf line)) buf
         whole = g ∙ ap (λ (l : List ℕ). writeBits l 0 (bitsOf line)) f ∙ packed-into buf (bitsOf line) (length line) (length-bits line) h
 
-module _ (input buf : List ℕ) (i : ℕ) {r : FieldFound} (p : r ≡ field 10 i input) where
-  pub string-missing : r ≡ Missing → leaves NotBits buf ≡ stringIn input i buf
+module _ (input buf : List ℕ) (i : ℕ) {r : FieldFound} (p : saidField r ≡ field newlineByte i input) where
+  pub string-missing : r ≡ Missing → saidString NotBits buf ≡ leavesString buf (stringIn input i (length buf))
   unfolding stringIn
   string-missing q = rw (← p, q) refl
 
-  pub string-found : (a b : ℕ) → r ≡ At a b → stringInto (bytesBetween a b input) buf ≡ stringIn input i buf
+  pub string-found : (a b : ℕ) → r ≡ Spans a b → leavesString buf (stringOf (bytesBetween a b input) (length buf)) ≡ leavesString buf (stringIn input i (length buf))
   unfolding stringIn
   string-found a b q = rw (← p, q) refl

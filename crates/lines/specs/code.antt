@@ -1,0 +1,2 @@
+-- What internal functions give: the terms of their contracts.
+pub mod Readings
