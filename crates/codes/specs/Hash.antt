@@ -11,18 +11,18 @@ xorLeft k v = bitXor v (v * 2 ^ k % 2 ^ 32)
 unfoldable pub xorRight : ℕ → ℕ → ℕ
 xorRight k v = bitXor v (v / 2 ^ k)
 
-unfoldable pub step : ℕ → ℕ
-step v = xorLeft 5 (xorRight 17 (xorLeft 13 v))
+unfoldable pub xorshift : ℕ → ℕ
+xorshift v = xorLeft 5 (xorRight 17 (xorLeft 13 v))
 
 -- 01, row i: the key after i steps
-unfoldable pub row : ℕ → ℕ → ℕ
-row key zero = key
-row key (suc i) = step (row key i)
+unfoldable pub hashRow : (key i : ℕ) → ℕ
+hashRow key zero = key
+hashRow key (suc i) = xorshift (hashRow key i)
 
 -- the xor of the low h bits of the rows of the set bits, where v is the row before the first bit's
 unfoldable pub hashFrom : ℕ → ℕ → List Bool → ℕ
 hashFrom h v [] = 0
-hashFrom h v (b ∷ l) = bitXor (cond b (step v % 2 ^ h) 0) (hashFrom h (step v) l)
+hashFrom h v (b ∷ l) = bitXor (cond b (xorshift v % 2 ^ h) 0) (hashFrom h (xorshift v) l)
 
 -- a piece's hash: its first bit has row 1, the key after one step
 unfoldable pub hash : ℕ → ℕ → List Bool → ℕ

@@ -1,6 +1,7 @@
 -- 01, "Syndrome and repair": one bit put in or taken out.
 use mathlib.Core.Path.{_≡_}
 use mathlib.Core.Bool.{Bool, true, false, cond}
+use mathlib.Core.Logic.{_⊎_}
 use mathlib.Core.List.{List, [], _∷_, _++_, map}
 use mathlib.Core.Option.{Option, none, some}
 use Prim.Native.Nat.{ℕ, suc, _+_, _<_}
@@ -42,6 +43,10 @@ putIn a l = withSyndrome a (insertions l)
 -- 01, take-out: the string with syndrome a got by deleting one bit of l; or none
 unfoldable pub takeOut : ℕ → List Bool → Option (List Bool)
 takeOut a l = withSyndrome a (deletions l)
+
+-- lengths one apart: n is one more than len, or one less
+abbrev pub OneApart : (len n : ℕ) → Type 0
+OneApart len n = (len + 1 ≡ n) ⊎ (len ≡ n + 1)
 
 -- the repair of l to n bits: put-in where n is one bit more, else take-out
 unfoldable pub repairTo : ℕ → ℕ → List Bool → Option (List Bool)

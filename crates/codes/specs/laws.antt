@@ -4,5 +4,6 @@ pub mod RepairLaws
 pub mod PlaceLaws
 pub mod EditLaws
 pub mod HashLaws
+pub mod TrialLaws
 pub mod EntryLaws
 pub mod Collision

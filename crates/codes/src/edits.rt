@@ -3,14 +3,13 @@
 ghost use mathlib.Core.Path.{_≡_};
 ghost use Prim.Native.Nat.{_+_, _-_, _≤_, _<_};
 ghost use lib.ListN.{length};
-ghost use Rattle.strings.specs.Bits.{range, writeBits, bytesFor, pack, atFront, Part};
+ghost use Rattle.strings.specs.Bits.{maxBits, range, writeBits, bytesFor, pack, atFront, Part};
 ghost use Rattle.codes.specs.Hash.{hash};
 ghost use Rattle.codes.specs.Repair.{without, insertAt};
-ghost use Rattle.codes.specs.code.Edits.{edited, Editable};
+ghost use Rattle.codes.specs.code.Edits.{edited, Fits};
 
-// What is done to a range: nothing; a bit put in at a place; the bit at a place taken out.
+// What is done to a range: a bit is put in at a place, or the bit at a place is taken out.
 pub enum Edit {
-    Keep,
     Put(usize, bool),
     Take(usize),
 }
@@ -46,14 +45,14 @@ fn hash_take(s: &[u8], start: usize, len: usize, i: usize, key: u32, h: u32) -> 
     crate::rows::low_bits(behind.sum, h)
 }
 
-// The hash of the edited range, which has n bits.
-pub fn hash_edited(s: &[u8], start: usize, len: usize, e: Edit, n: usize, key: u32, h: u32) -> u32
-    requires { ⌜ Editable (now s) start len e n ⌝ }
+// The hash of the edited range.
+pub fn hash_edited(s: &[u8], start: usize, len: usize, e: Edit, key: u32, h: u32) -> u32
+    requires { ⌜ Part (now s) start len ⌝ }
+    requires { ⌜ Fits e len ⌝ }
     requires { ⌜ h ≤ 32 ⌝ }
     ensures { λ r. ⌜ r ≡ hash h key (edited e (range (now (s .entry)) start len)) ⌝ }
 {
     match e {
-        Edit::Keep => crate::rows::hash_of(s, start, n, key, h),
         Edit::Put(i, b) => hash_put(s, start, len, i, b, key, h),
         Edit::Take(i) => hash_take(s, start, len, i, key, h),
     }
@@ -82,26 +81,28 @@ fn copy_take(s: &[u8], start: usize, len: usize, i: usize, to: &mut [u8], at: us
     strings::copy_bits(s, start + i + 1, len - i - 1, to, at + i);
 }
 
-// The edited range, which has n bits, is written into `to` from place `at` on.
-pub fn copy_edited(s: &[u8], start: usize, len: usize, e: Edit, n: usize, to: &mut [u8], at: usize)
-    requires { ⌜ Editable (now s) start len e n ⌝ }
-    requires { ⌜ Part (now to) at n ⌝ }
+// The edited range is written into `to` from place `at` on.
+pub fn copy_edited(s: &[u8], start: usize, len: usize, e: Edit, to: &mut [u8], at: usize)
+    requires { ⌜ Part (now s) start len ⌝ }
+    requires { ⌜ Fits e len ⌝ }
+    requires { ⌜ Part (now to) at (length (edited e (range (now s) start len))) ⌝ }
     ensures { λ r. ⌜ now (to .exit) ≡ writeBits (now (to .entry)) at (edited e (range (now (s .entry)) start len)) ⌝ }
 {
     match e {
-        Edit::Keep => strings::copy_bits(s, start, n, to, at),
         Edit::Put(i, b) => copy_put(s, start, len, i, b, to, at),
         Edit::Take(i) => copy_take(s, start, len, i, to, at),
     }
 }
 
-// The first bytes of `out` become the edited range as a string; later bytes stay.
+// The first bytes of `out` become the edited range, which has n bits, as a string; later bytes stay.
 pub fn pack_edited(s: &[u8], start: usize, len: usize, e: Edit, n: usize, out: &mut [u8])
-    requires { ⌜ Editable (now s) start len e n ⌝ }
-    requires { ⌜ n ≤ 65536 ⌝ }
+    requires { ⌜ Part (now s) start len ⌝ }
+    requires { ⌜ Fits e len ⌝ }
+    requires { ⌜ length (edited e (range (now s) start len)) ≡ n ⌝ }
+    requires { ⌜ n ≤ maxBits ⌝ }
     requires { ⌜ bytesFor n ≤ length (now out) ⌝ }
     ensures { λ r. ⌜ now (out .exit) ≡ atFront (pack (edited e (range (now (s .entry)) start len))) (now (out .entry)) ⌝ }
 {
     strings::clear_bytes(out, 0, (n + 7) / 8);
-    copy_edited(s, start, len, e, n, out, 0);
+    copy_edited(s, start, len, e, out, 0);
 }

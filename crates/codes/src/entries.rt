@@ -2,7 +2,8 @@
 ghost use mathlib.Core.Path.{_≡_};
 ghost use Prim.Native.Nat.{_≤_};
 ghost use lib.ListN.{length};
-ghost use Rattle.codes.specs.Entries.{said, saidRepair, leaves, syndromeCall, hashCall, repairCall, repairRange, hashSettings};
+ghost use Rattle.strings.specs.Bits.{maxBits};
+ghost use Rattle.codes.specs.Entries.{saidNumber, saidRepair, repairLeft, syndromeCall, hashCall, repairCall, repairRange, hashSettings};
 use crate::edits::Repair;
 use strings::Refusal;
 
@@ -23,7 +24,7 @@ pub enum RepairAnswer {
 
 // The syndrome of a string.
 pub fn syndrome(s: &[u8], bits: usize) -> NumberAnswer
-    ensures { λ r. ⌜ said r ≡ syndromeCall (now (s .entry)) bits ⌝ }
+    ensures { λ r. ⌜ saidNumber r ≡ syndromeCall (now (s .entry)) bits ⌝ }
 {
     if !strings::keeps_string_rule(s, bits) {
         return NumberAnswer::Refused(Refusal::BadString);
@@ -36,18 +37,15 @@ pub fn syndrome(s: &[u8], bits: usize) -> NumberAnswer
 fn keeps_hash_settings(h: u32, key: u32) -> bool
     ensures { λ r. ⌜ r ≡ hashSettings h key ⌝ }
 {
-    if h < 8 {
-        return false;
-    }
-    if 32 < h {
-        return false;
-    }
-    1 <= key
+    strings::both(
+        strings::is_between(8, h, 32),
+        strings::is_between(1, key, 4294967295),
+    )
 }
 
 // The hash of a string.
 pub fn hash(s: &[u8], bits: usize, h: u32, key: u32) -> NumberAnswer
-    ensures { λ r. ⌜ said r ≡ hashCall (now (s .entry)) bits h key ⌝ }
+    ensures { λ r. ⌜ saidNumber r ≡ hashCall (now (s .entry)) bits h key ⌝ }
 {
     if !keeps_hash_settings(h, key) {
         return NumberAnswer::Refused(Refusal::BadSetting);
@@ -60,10 +58,10 @@ pub fn hash(s: &[u8], bits: usize, h: u32, key: u32) -> NumberAnswer
 
 // Whether a string of `bits` bits can be asked to become one of n bits with the syndrome a.
 fn keeps_repair_range(bits: usize, n: usize, a: usize) -> bool
-    requires { ⌜ bits ≤ 65536 ⌝ }
+    requires { ⌜ bits ≤ maxBits ⌝ }
     ensures { λ r. ⌜ r ≡ repairRange bits n a ⌝ }
 {
-    if 65536 < n {
+    if strings::MAX_BITS < n {
         return false;
     }
     if n < a {
@@ -77,7 +75,7 @@ fn keeps_repair_range(bits: usize, n: usize, a: usize) -> bool
 
 // The repair of a string of `bits` bits to one of n bits, one more or one less, that has the syndrome a.
 pub fn repair(s: &[u8], bits: usize, n: usize, a: usize, out: &mut [u8]) -> RepairAnswer
-    ensures { λ r. ⌜ saidRepair r (now (out .exit)) ≡ leaves (now (out .entry)) (repairCall (now (s .entry)) bits n a (length (now (out .entry)))) ⌝ }
+    ensures { λ r. ⌜ saidRepair r (now (out .exit)) ≡ repairLeft (now (out .entry)) (repairCall (now (s .entry)) bits n a (length (now (out .entry)))) ⌝ }
 {
     if !strings::keeps_string_rule(s, bits) {
         return RepairAnswer::Refused(Refusal::BadString);

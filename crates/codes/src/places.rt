@@ -1,16 +1,18 @@
 // The place of the bit to put in or take out, found from the weighted sum and the count of ones.
 ghost use mathlib.Core.Path.{_≡_};
 ghost use mathlib.Core.Bool.{cond};
+ghost use mathlib.Core.Option.{some};
 ghost use Prim.Native.Nat.{_+_, _≤_, _<_};
-ghost use Rattle.strings.specs.Bits.{range, Part};
+ghost use Rattle.strings.specs.Bits.{maxBits, range, Part};
+ghost use Rattle.codes.specs.Repair.{putIn, takeOut, repairTo};
 ghost use Rattle.codes.specs.code.Place.{ones, zeroPlace, onePlace, rise, zeroFall, oneFall, takePlace};
-ghost use Rattle.codes.specs.code.Edits.{putEdit, putRepair, takeRepair, repairEdit};
+ghost use Rattle.codes.specs.code.Edits.{edited, Fits, repaired, RepairFits};
 use crate::edits::Edit;
 use crate::edits::Repair;
 
 // By how much the weighted sum of len bits has to rise for the syndrome a of one bit more.
 fn lack_of(len: usize, sum: usize, a: usize) -> usize
-    requires { ⌜ len ≤ 65536 ⌝ }
+    requires { ⌜ len ≤ maxBits ⌝ }
     requires { ⌜ a ≤ len + 1 ⌝ }
     ensures { λ r. ⌜ r ≡ rise len sum a ⌝ }
 {
@@ -57,7 +59,8 @@ fn one_place(s: &[u8], start: usize, len: usize, z: usize) -> usize
 fn put_edit(s: &[u8], start: usize, len: usize, a: usize) -> Edit
     requires { ⌜ Part (now s) start len ⌝ }
     requires { ⌜ a ≤ len + 1 ⌝ }
-    ensures { λ r. ⌜ r ≡ putEdit a (range (now (s .entry)) start len) ⌝ }
+    ensures { λ r. ⌜ some (edited r (range (now (s .entry)) start len)) ≡ putIn a (range (now (s .entry)) start len) ⌝ }
+    ensures { λ r. ⌜ Fits r len ⌝ }
 {
     let all = crate::sums::sums_of(s, start, len);
     let w = all.ones;
@@ -71,7 +74,8 @@ fn put_edit(s: &[u8], start: usize, len: usize, a: usize) -> Edit
 // The bit put in that gives the syndrome a. There is one for each a up to len + 1.
 fn find_put(s: &[u8], start: usize, len: usize, a: usize) -> Repair
     requires { ⌜ Part (now s) start len ⌝ }
-    ensures { λ r. ⌜ r ≡ putRepair a (range (now (s .entry)) start len) ⌝ }
+    ensures { λ r. ⌜ repaired r (range (now (s .entry)) start len) ≡ putIn a (range (now (s .entry)) start len) ⌝ }
+    ensures { λ r. ⌜ RepairFits r len ⌝ }
 {
     if len + 1 < a {
         return Repair::Nothing;
@@ -82,7 +86,7 @@ fn find_put(s: &[u8], start: usize, len: usize, a: usize) -> Repair
 // The fall of the sum, 0 to len - 1, that leaves the syndrome a of a range with a bit less.
 fn zero_fall(len: usize, sum: usize, a: usize) -> usize
     requires { ⌜ a < len ⌝ }
-    requires { ⌜ len ≤ 65536 ⌝ }
+    requires { ⌜ len ≤ maxBits ⌝ }
     ensures { λ r. ⌜ r ≡ zeroFall len sum a ⌝ }
 {
     (sum % len + (len - a)) % len
@@ -142,7 +146,8 @@ fn take_place(s: &[u8], start: usize, len: usize, a: usize) -> usize
 // The bit taken out that gives the syndrome a, if there is one.
 fn find_take(s: &[u8], start: usize, len: usize, a: usize) -> Repair
     requires { ⌜ Part (now s) start len ⌝ }
-    ensures { λ r. ⌜ r ≡ takeRepair a (range (now (s .entry)) start len) ⌝ }
+    ensures { λ r. ⌜ repaired r (range (now (s .entry)) start len) ≡ takeOut a (range (now (s .entry)) start len) ⌝ }
+    ensures { λ r. ⌜ RepairFits r len ⌝ }
 {
     let i = take_place(s, start, len, a);
     if i < len {
@@ -154,7 +159,8 @@ fn find_take(s: &[u8], start: usize, len: usize, a: usize) -> Repair
 // The repair of a range to n bits, one more or one less, of syndrome a.
 pub fn find_repair(s: &[u8], start: usize, len: usize, n: usize, a: usize) -> Repair
     requires { ⌜ Part (now s) start len ⌝ }
-    ensures { λ r. ⌜ r ≡ repairEdit n a (range (now (s .entry)) start len) ⌝ }
+    ensures { λ r. ⌜ repaired r (range (now (s .entry)) start len) ≡ repairTo n a (range (now (s .entry)) start len) ⌝ }
+    ensures { λ r. ⌜ RepairFits r len ⌝ }
 {
     if len + 1 == n {
         return find_put(s, start, len, a);

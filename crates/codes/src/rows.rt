@@ -3,12 +3,12 @@ ghost use mathlib.Core.Path.{_≡_};
 ghost use mathlib.Core.List.{[], _∷_};
 ghost use Prim.Native.Nat.{_*_, _%_, _^_, _≤_};
 ghost use Rattle.strings.specs.Bits.{range, Part, byteBits};
-ghost use Rattle.codes.specs.Hash.{step as stepOf, hash};
+ghost use Rattle.codes.specs.Hash.{xorshift as xorshiftOf, hash};
 ghost use Rattle.codes.specs.code.HashForms.{Went};
 
 // One step.
-pub fn step(v: u32) -> u32
-    ensures { λ r. ⌜ r ≡ stepOf v ⌝ }
+pub fn xorshift(v: u32) -> u32
+    ensures { λ r. ⌜ r ≡ xorshiftOf v ⌝ }
 {
     let a = v ^ (v << 13);
     let b = a ^ (a >> 17);
@@ -33,7 +33,7 @@ pub struct Hashing {
 pub fn hash_bit(b: bool, sum: u32, row: u32) -> Hashing
     ensures { λ r. ⌜ Went sum row (b ∷ []) (r .sum) (r .row) ⌝ }
 {
-    let next = step(row);
+    let next = xorshift(row);
     if b {
         return Hashing {
             sum: sum ^ next,

@@ -18,7 +18,7 @@ use Rattle.strings.specs.laws.BitLaws.{xor-odd}
 use Rattle.codes.specs.Repair.{insertAt}
 use Rattle.codes.specs.laws.RepairLaws.{length-insert}
 use Rattle.codes.specs.code.Place.{ones}
-use Rattle.codes.specs.Hash.{xorLeft, xorRight, step, hashFrom, hash}
+use Rattle.codes.specs.Hash.{xorLeft, xorRight, xorshift, hashFrom, hash}
 use Rattle.codes.specs.laws.HashLaws.{xor-assoc}
 
 -- the xor of the numbers that l picks
@@ -242,23 +242,23 @@ dependent (suc h) (r ∷ rs) e a = go (find-odd (r ∷ rs)) a (dependent h)
 -- ---- the low h bits of the rows are such numbers
 lowRows : (h v n : ℕ) → List ℕ
 lowRows h v zero = []
-lowRows h v (suc n) = step v % 2 ^ h ∷ lowRows h (step v) n
+lowRows h v (suc n) = xorshift v % 2 ^ h ∷ lowRows h (xorshift v) n
 
 length-rows : (h v n : ℕ) → length (lowRows h v n) ≡ n
 unfolding lowRows
 length-rows h v zero = refl
-length-rows h v (suc n) = ap suc (length-rows h (step v) n)
+length-rows h v (suc n) = ap suc (length-rows h (xorshift v) n)
 
 rows-below : (h v n : ℕ) → All (Below h) (lowRows h v n)
 unfolding lowRows
 rows-below h v zero = none
-rows-below h v (suc n) = more (mod-lt (step v) (pow-pos h)) (rows-below h (step v) n)
+rows-below h v (suc n) = more (mod-lt (xorshift v) (pow-pos h)) (rows-below h (xorshift v) n)
 
 hash-pick : (h v n : ℕ) (l : List Bool) → length l ≡ n → hashFrom h v l ≡ pick l (lowRows h v n)
 unfolding hashFrom pick lowRows
 hash-pick h v n [] e = refl
 hash-pick h v zero (b ∷ l) e = absurd (omega arith)
-hash-pick h v (suc n) (b ∷ l) e = ap (bitXor (cond b (step v % 2 ^ h) 0)) (hash-pick h (step v) n l (omega arith))
+hash-pick h v (suc n) (b ∷ l) e = ap (bitXor (cond b (xorshift v % 2 ^ h) 0)) (hash-pick h (xorshift v) n l (omega arith))
 
 pub record Collision (h key : ℕ) : Type 0 where
   pub bits : List Bool
@@ -281,5 +281,5 @@ hash-collides h key =
 
 -- for h 8 and key 1 it is this one
 pub hash-eight-collides : hash 8 1 (false ∷ true ∷ false ∷ false ∷ true ∷ true ∷ false ∷ false ∷ false ∷ []) ≡ 0
-unfolding hash hashFrom step xorLeft xorRight
+unfolding hash hashFrom xorshift xorLeft xorRight
 hash-eight-collides = refl

@@ -1,129 +1,68 @@
--- Laws of edits: the length of an edited range, its parts, and that the edits found are put-in and take-out.
-use mathlib.Core.Path.{_≡_, refl, sym, ap, ap₂, _∙_, subst}
-use mathlib.Core.Bool.{Bool, true, false, cond}
-use mathlib.Core.Logic.{_⊎_, inl, inr}
+-- Laws of edits: what is found is 01's repair; an edited range in parts, its copy and its hash.
+use mathlib.Core.Path.{_≡_, sym, ap, ap₂, _∙_, subst}
+use mathlib.Core.Bool.{Bool}
 use mathlib.Core.List.{List, [], _∷_, _++_}
-use mathlib.Core.Option.{none, some}
+use mathlib.Core.Option.{Option, none, some}
 use Prim.Native.Nat.{ℕ, suc, _+_, _-_, _%_, _^_, _≤_, _<_}
-use native.Mathlib.Decide.{decLt, decLe}
 use native.Mathlib.Omega.{arith}
 use lib.ListN.{length}
-use lib.Dec.{eqb, leb, ltb}
-use borrow.Author.Tests.{le-leb, lt-leb, lt-ltb, le-ltb, ltb-true, eq-eqb, ne-eqb}
 use Rattle.strings.specs.Bits.{range, setBit, writeBits}
 use Rattle.strings.specs.laws.RangeLaws.{range-length, range-take, range-drop}
 use Rattle.strings.specs.laws.WriteLaws.{write-next, write-append}
-use Rattle.codes.specs.Repair.{without, insertAt, putIn, takeOut, repairTo}
+use Rattle.codes.specs.Repair.{without, insertAt, putIn, takeOut}
 use Rattle.codes.specs.laws.RepairLaws.{length-insert, length-without, put-place-within, put-in-filled, put-in-above}
-use Rattle.codes.specs.code.Place.{ones, zeroPlace, onePlace, lack, putPlace, putBit, filled, takePlace}
-use Rattle.codes.specs.laws.PlaceLaws.{put-zero, put-one, take-place-found, take-place-none}
+use Rattle.codes.specs.code.Place.{putPlace, putBit, filled, takePlace}
+use Rattle.codes.specs.laws.PlaceLaws.{take-place-found, take-place-none}
 use Rattle.codes.specs.Hash.{hash}
 use Rattle.codes.specs.code.HashForms.{Went}
 use Rattle.codes.specs.laws.HashLaws.{went-on, went-cut}
-use Rattle.codes.specs.code.Edits.{edited, Fits, putEdit, putRepair, takeRepair, repairEdit, repaired}
+use Rattle.codes.specs.code.Edits.{edited, Fits, repaired, RepairFits}
 use Rattle.codes.specs.declared.edits.Edit.{Edit}
-use Rattle.codes.specs.declared.edits.Edit.the-variants.{Keep, Put, Take}
+use Rattle.codes.specs.declared.edits.Edit.the-variants.{Put, Take}
 use Rattle.codes.specs.declared.edits.Repair.{Repair}
 use Rattle.codes.specs.declared.edits.Repair.the-variants.{Found, Nothing}
 
-pub edited-length : (e : Edit) (l : List Bool) (len n : ℕ) → length l ≡ len → Fits e len n → length (edited e l) ≡ n
-edited-length Keep l len n h f = h ∙ sym f
-edited-length (Put i b) l len n h f = let f1 = f .1 in let x = length-insert i b l in omega arith
-edited-length (Take i) l len n h f = let f0 = f .0 in let f1 = f .1 in let x = length-without i l (omega arith) in omega arith
-
--- ---- the edits found are 01's repairs
-put-edit-is : (a : ℕ) (l : List Bool) → edited (putEdit a l) l ≡ filled a l
-unfolding putEdit filled
-put-edit-is a l = refl
-
-pub put-repair : (a : ℕ) (l : List Bool) → repaired (putRepair a l) l ≡ putIn a l
-unfolding putRepair
-put-repair a l = go (decLe a (length l + 1))
-  where
-    go : Dec (a ≤ length l + 1) → repaired (cond (leb a (length l + 1)) (Found (putEdit a l)) Nothing) l ≡ putIn a l
-    go (yes h) = rw (le-leb a (length l + 1) h) (ap some (put-edit-is a l) ∙ sym (put-in-filled a l h))
-    go (no h) = rw (lt-leb a (length l + 1) (omega arith)) (sym (put-in-above a l (omega arith)))
-
-pub take-repair : (a : ℕ) (l : List Bool) → repaired (takeRepair a l) l ≡ takeOut a l
-unfolding takeRepair
-take-repair a l = go (decLt (takePlace a l) (length l))
-  where
-    go : Dec (takePlace a l < length l) → repaired (cond (ltb (takePlace a l) (length l)) (Found (Take (takePlace a l))) Nothing) l ≡ takeOut a l
-    go (yes h) = rw (lt-ltb (takePlace a l) (length l) h) (sym (take-place-found a l h))
-    go (no h) = rw (le-ltb (takePlace a l) (length l) (omega arith)) (sym (take-place-none a l (omega arith)))
-
-pub repair-edit : (n a : ℕ) (l : List Bool) → repaired (repairEdit n a l) l ≡ repairTo n a l
-unfolding repairEdit repairTo
-repair-edit n a l = go (eqb (length l + 1) n)
-  where
-    go : (t : Bool) → repaired (cond t (putRepair a l) (takeRepair a l)) l ≡ cond t (putIn a l) (takeOut a l)
-    go true = put-repair a l
-    go false = take-repair a l
-
--- ---- what the functions that find an edit give back, from the numbers that they hold
-pub put-edit-zero : (a : ℕ) (l : List Bool) (w d p : ℕ) → w ≡ ones l → d ≡ lack a l → d ≤ w → p ≡ zeroPlace d l → Put p false ≡ putEdit a l
-unfolding putEdit
-put-edit-zero a l w d p e f h g = let q = put-zero a l w d p e f h g in ap₂ Put (q .0) (q .1)
-
-pub put-edit-one : (a : ℕ) (l : List Bool) (w d p : ℕ) → w ≡ ones l → d ≡ lack a l → w < d → p ≡ onePlace (d - w - 1) l → Put p true ≡ putEdit a l
-unfolding putEdit
-put-edit-one a l w d p e f h g = let q = put-one a l w d p e f h g in ap₂ Put (q .0) (q .1)
-
+-- ---- the code's places give 01's repairs, from the numbers that a function holds
 module _ (a : ℕ) (l : List Bool) (len : ℕ) (n : length l ≡ len) where
-  pub put-repair-above : len + 1 < a → Nothing ≡ putRepair a l
-  unfolding putRepair
-  put-repair-above h = rw (lt-leb a (length l + 1) (omega arith)) refl
+  pub put-repair : (p : ℕ) (b : Bool) → a ≤ len + 1 → p ≡ putPlace a l → b ≡ putBit a l → (some (insertAt p b l) ≡ putIn a l) × (p ≤ len)
+  unfolding filled
+  put-repair p b h e f =
+      let w = put-place-within a l in
+      (ap₂ (λ (x : ℕ) (y : Bool). some (insertAt x y l)) e f ∙ sym (put-in-filled a l (omega arith)), omega arith)
 
-  pub put-repair-found : (e : Edit) → a ≤ len + 1 → e ≡ putEdit a l → Found e ≡ putRepair a l
-  unfolding putRepair
-  put-repair-found e h f = rw (le-leb a (length l + 1) (omega arith)) (ap Found f)
+  pub put-none : len + 1 < a → none ≡ putIn a l
+  put-none h = sym (put-in-above a l (omega arith))
 
-  pub take-repair-found : (i : ℕ) → i ≡ takePlace a l → i < len → Found (Take i) ≡ takeRepair a l
-  unfolding takeRepair
-  take-repair-found i f h = rw (lt-ltb (takePlace a l) (length l) (omega arith)) (ap (λ (x : ℕ). Found (Take x)) f)
+  pub take-repair : (i : ℕ) → i ≡ takePlace a l → i < len → some (without i l) ≡ takeOut a l
+  take-repair i e h = ap (λ (x : ℕ). some (without x l)) e ∙ sym (take-place-found a l (omega arith))
 
-  pub take-repair-nothing : (i : ℕ) → i ≡ takePlace a l → len ≤ i → Nothing ≡ takeRepair a l
-  unfolding takeRepair
-  take-repair-nothing i f h = rw (le-ltb (takePlace a l) (length l) (omega arith)) refl
+  pub take-none : (i : ℕ) → i ≡ takePlace a l → len ≤ i → none ≡ takeOut a l
+  take-none i e h = sym (take-place-none a l (omega arith))
 
-  pub repair-edit-put : (m : ℕ) (r : Repair) → len + 1 ≡ m → r ≡ putRepair a l → r ≡ repairEdit m a l
-  unfolding repairEdit
-  repair-edit-put m r h f = rw (eq-eqb (length l + 1) m (omega arith)) f
+-- ---- what the arms of a match on a repair know, where it gives o
+module _ (r : Repair) (l : List Bool) (o : Option (List Bool)) (f : repaired r l ≡ o) where
+  pub found-is : (e : Edit) → r ≡ Found e → o ≡ some (edited e l)
+  found-is e h = sym f ∙ ap (λ (x : Repair). repaired x l) h
 
-  pub repair-edit-take : (m : ℕ) (r : Repair) → (len + 1 ≡ m → ⊥) → r ≡ takeRepair a l → r ≡ repairEdit m a l
-  unfolding repairEdit
-  repair-edit-take m r h f = rw (ne-eqb (length l + 1) m (λ z. h (omega arith))) f
+  pub nothing-is : r ≡ Nothing → o ≡ none
+  nothing-is h = sym f ∙ ap (λ (x : Repair). repaired x l) h
 
-  put-fits : (r : Repair) → r ≡ putRepair a l → (e : Edit) → r ≡ Found e → Fits e len (len + 1)
-  unfolding putRepair putEdit
-  put-fits r f e g = go (leb a (length l + 1)) (sym f ∙ g)
-    where
-      go : (t : Bool) → cond t (Found (Put (putPlace a l) (putBit a l))) Nothing ≡ Found e → Fits e len (len + 1)
-      go true h = let q : Put (putPlace a l) (putBit a l) ≡ e = cc in subst (λ (x : Edit). Fits x len (len + 1)) q (let w = put-place-within a l in omega arith, refl)
-      go false h = let z : _≡_ {A = ℕ} 0 1 = cc in absurd (omega arith)
+pub found-fits : (r : Repair) (len : ℕ) (e : Edit) → RepairFits r len → r ≡ Found e → Fits e len
+found-fits r len e f h = subst (λ (x : Repair). RepairFits x len) h f
 
-  take-fits : (m : ℕ) → len ≡ m + 1 → (r : Repair) → r ≡ takeRepair a l → (e : Edit) → r ≡ Found e → Fits e len m
-  unfolding takeRepair
-  take-fits m k r f e g = go (ltb (takePlace a l) (length l)) refl (sym f ∙ g)
-    where
-      go : (t : Bool) → ltb (takePlace a l) (length l) ≡ t → cond t (Found (Take (takePlace a l))) Nothing ≡ Found e → Fits e len m
-      go true b h = let q : Take (takePlace a l) ≡ e = cc in subst (λ (x : Edit). Fits x len m) q (let w = ltb-true (takePlace a l) (length l) b in omega arith, k)
-      go false b h = let z : _≡_ {A = ℕ} 0 1 = cc in absurd (omega arith)
+-- ---- what the arms of a match on an edit know
+pub edited-as : (e x : Edit) (l : List Bool) → e ≡ x → edited x l ≡ edited e l
+edited-as e x l h = ap (λ (z : Edit). edited z l) (sym h)
 
-  -- an edit that is found for lengths one apart can be made
-  pub repair-fits : (m : ℕ) → (len + 1 ≡ m) ⊎ (len ≡ m + 1) → (e : Edit) → repairEdit m a l ≡ Found e → Fits e len m
-  unfolding repairEdit
-  repair-fits m (inl h) e f =
-      subst (λ (x : ℕ). Fits e len x) h (put-fits (putRepair a l) refl e (sym (ap (λ (t : Bool). cond t (putRepair a l) (takeRepair a l)) (eq-eqb (length l + 1) m (omega arith))) ∙ f))
-  repair-fits m (inr h) e f =
-      take-fits m h (takeRepair a l) refl e (sym (ap (λ (t : Bool). cond t (putRepair a l) (takeRepair a l)) (ne-eqb (length l + 1) m (λ z. omega arith))) ∙ f)
+module _ (e : Edit) (l : List Bool) (len : ℕ) (n : length l ≡ len) (f : Fits e len) where
+  pub as-put : (i : ℕ) (b : Bool) → e ≡ Put i b → (i ≤ len) × (length (edited e l) ≡ len + 1)
+  as-put i b h =
+      (subst (λ (x : Edit). Fits x len) h f, ap (λ (x : Edit). length (edited x l)) h ∙ length-insert i b l ∙ ap (λ (x : ℕ). x + 1) n)
 
--- the edit found gives the repaired string; where none is found there is none
-pub repair-found : (n a : ℕ) (l : List Bool) (r : Repair) (e : Edit) → r ≡ repairEdit n a l → r ≡ Found e → repairTo n a l ≡ some (edited e l)
-repair-found n a l r e f g = sym (repair-edit n a l) ∙ ap (λ (x : Repair). repaired x l) (sym f ∙ g)
-
-pub repair-nothing : (n a : ℕ) (l : List Bool) (r : Repair) → r ≡ repairEdit n a l → r ≡ Nothing → repairTo n a l ≡ none
-repair-nothing n a l r f g = sym (repair-edit n a l) ∙ ap (λ (x : Repair). repaired x l) (sym f ∙ g)
+  pub as-take : (i : ℕ) → e ≡ Take i → (i < len) × (length (edited e l) + 1 ≡ len)
+  as-take i h =
+      let w : i < len = subst (λ (x : Edit). Fits x len) h f in
+      (w, ap (λ (x : Edit). length (edited x l) + 1) h ∙ length-without i l (omega arith) ∙ n)
 
 -- ---- an edited range in parts, and what is made of its parts: a copy and a hash
 module _ (s : List ℕ) (start len i : ℕ) where
@@ -168,20 +107,3 @@ module _ (s : List ℕ) (start len i : ℕ) where
         went-cut h key x₁ v₁ (range s start i ++ range s (start + i + 1) (len - i - 1))
         (went-on 0 key x v x₁ v₁ (range s start i) (range s (start + i + 1) (len - i - 1)) p q)
         ∙ ap (hash h key) (sym (take-parts l))
-
--- ---- what the arms of a match on the edit know
-pub edited-as : (e x : Edit) (l : List Bool) → e ≡ x → edited x l ≡ edited e l
-edited-as e x l h = ap (λ (z : Edit). edited z l) (sym h)
-
-module _ (e : Edit) (len n : ℕ) (f : Fits e len n) where
-  pub as-keep : e ≡ Keep → n ≡ len
-  as-keep h = subst (λ (x : Edit). Fits x len n) h f
-
-  pub as-put : (i : ℕ) (b : Bool) → e ≡ Put i b → (i ≤ len) × (n ≡ len + 1)
-  as-put i b h = subst (λ (x : Edit). Fits x len n) h f
-
-  pub as-take : (i : ℕ) → e ≡ Take i → (i < len) × (len ≡ n + 1)
-  as-take i h = subst (λ (x : Edit). Fits x len n) h f
-
-  pub edited-keep : (s : List ℕ) (start : ℕ) → e ≡ Keep → range s start n ≡ edited e (range s start len)
-  edited-keep s start h = ap (range s start) (as-keep h) ∙ ap (λ (x : Edit). edited x (range s start len)) (sym h)

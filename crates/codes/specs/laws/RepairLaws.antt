@@ -1,7 +1,7 @@
 -- The theorems on put-in and take-out, for every length and every syndrome.
 use mathlib.Core.Path.{_≡_, refl, sym, ap, ap₂, _∙_}
 use mathlib.Core.Bool.{Bool, true, false, cond}
-use mathlib.Core.Logic.{_⊎_, ⊎-elim}
+use mathlib.Core.Logic.{inl, inr, ⊎-elim}
 use mathlib.Core.List.{List, [], _∷_, List·Memᴰ, List·Memᴰ·head, List·Memᴰ·tail, List·Memᴰ·not-nil, List·Memᴰ·cases-cons, Memᴰ·cast, Memᴰ·map, Memᴰ·of-map}
 use mathlib.Core.Option.{Option, none, some, Option·some-injective, Option·none-ne-some}
 use Prim.Native.Nat.{ℕ, zero, suc, _+_, _-_, _*_, _/_, _%_, _≤_, _<_}
@@ -13,7 +13,7 @@ use lib.Dec.{eqb, leb}
 use borrow.Author.Tests.{le-leb, lt-leb, leb-true, leb-false, eq-eqb, ne-eqb, eqb-true, eqb-false}
 use Rattle.codes.specs.Syndrome.{weightedSum, syndrome}
 use Rattle.codes.specs.laws.SyndromeLaws.{weighted-sum-insert-zero, weighted-sum-insert-one, ones-zeros, ones-drop, zeros-take, place-ones, syndrome-most}
-use Rattle.codes.specs.Repair.{without, insertAt, Deletion, insertions, deletions, withSyndrome, putIn, takeOut, repairTo}
+use Rattle.codes.specs.Repair.{without, insertAt, Deletion, insertions, deletions, withSyndrome, putIn, takeOut, OneApart, repairTo}
 use Rattle.codes.specs.code.Place.{ones, zeros, zeroPlace, onePlace, lack, putBit, putPlace, filled}
 
 -- ---- one bit put in, one bit taken out
@@ -407,6 +407,11 @@ repair-put-in n a l e = rw (eq-eqb (length l + 1) n e) refl
 pub repair-take-out : (n a : ℕ) (l : List Bool) → (length l + 1 ≡ n → ⊥) → repairTo n a l ≡ takeOut a l
 unfolding repairTo
 repair-take-out n a l e = rw (ne-eqb (length l + 1) n e) refl
+
+-- it has n bits
+pub repair-length : (n a len : ℕ) (l x : List Bool) → length l ≡ len → OneApart len n → repairTo n a l ≡ some x → length x ≡ n
+repair-length n a len l x k (inl h) e = let m = put-in-length a l x (sym (repair-put-in n a l (omega arith)) ∙ e) in omega arith
+repair-length n a len l x k (inr h) e = let m = take-out-length a l x (sym (repair-take-out n a l (λ z. omega arith)) ∙ e) in omega arith
 
 -- ---- what the rebuilder rests on
 -- if long deletes to short, put-in of short with long's syndrome is long

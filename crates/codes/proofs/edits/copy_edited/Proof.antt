@@ -1,20 +1,12 @@
--- `codes::copy_edited` meets its contract: one law of specs/EditLaws.antt for each arm. Assumes nothing.
+-- `codes::copy_edited` meets its contract: one law of specs/laws/EditLaws.antt for each arm. Assumes nothing.
 use mathlib.Core.Path.{ap, _∙_}
-use Prim.Native.Nat.{_-_}
 use native.Mathlib.Omega.{arith}
 use Rattle.strings.specs.Bits.{range, writeBits}
-use Rattle.codes.specs.laws.EditLaws.{as-keep, as-put, as-take, edited-keep, edited-as}
+use Rattle.strings.specs.laws.RangeLaws.{range-length}
+use Rattle.codes.specs.laws.EditLaws.{as-put, as-take, edited-as}
 use borrow.Author.Needs.{needs}
 use Rattle.codes.proofs.edits.copy_edited.Statement.{statement}
 use Rattle.codes.proofs.edits.copy_edited.Tie as tie
-
-enum-told : tie.Need-enum-told
-enum-told c = search needs
-
-copy-bits-requires : tie.Need-copy-bits-requires
-copy-bits-requires c κs =
-    let s = c .before .before .before .before .before in
-    let m = as-keep (s .args .e) (s .args .len) (s .args .n) (s .pre .0 .fits) (c .before .enum-told .given .1) in (record { there = omega arith; few = omega arith }, s .pre .1)
 
 enum-known-e : tie.Need-enum-known-e
 enum-known-e c = search needs
@@ -22,8 +14,11 @@ enum-known-e c = search needs
 copy-put-requires : tie.Need-copy-put-requires
 copy-put-requires c κs =
     let s = c .before .before .before .before .before .before in
-    let m = as-put (s .args .e) (s .args .len) (s .args .n) (s .pre .0 .fits) (c .before .before .e .given .0 .0) (c .before .before .e .given .0 .1 .0) (c .before .before .e .given .1) in
-    let m1 = m .1 in (s .pre .0 .part, (m .0, record { there = omega arith; few = omega arith }))
+    let bits = range (s .args .s .now) (s .args .start) (s .args .len) in
+    let m = as-put (s .args .e) bits (s .args .len) (range-length _ _ _) (s .pre .1 .0) (c .before .before .e .given .0 .0) (c .before .before .e .given .0 .1 .0) (c .before .before .e .given .1) in
+    let long = m .1 in
+    let room = s .pre .1 .1 in
+    (s .pre .0, (m .0, record { there = omega arith; few = omega arith }))
 
 enum-known-e-2 : tie.Need-enum-known-e-2
 enum-known-e-2 c = search needs
@@ -31,16 +26,19 @@ enum-known-e-2 c = search needs
 copy-take-requires : tie.Need-copy-take-requires
 copy-take-requires c κs =
     let s = c .before .before .before .before .before .before in
-    let m = as-take (s .args .e) (s .args .len) (s .args .n) (s .pre .0 .fits) (c .before .before .e2 .given .0 .0) (c .before .before .e2 .given .1) in
-    let m1 = m .1 in (s .pre .0 .part, (m .0, record { there = omega arith; few = omega arith }))
+    let bits = range (s .args .s .now) (s .args .start) (s .args .len) in
+    let m = as-take (s .args .e) bits (s .args .len) (range-length _ _ _) (s .pre .1 .0) (c .before .before .e2 .given .0 .0) (c .before .before .e2 .given .1) in
+    let long = m .1 in
+    let room = s .pre .1 .1 in
+    (s .pre .0, (m .0, record { there = omega arith; few = omega arith }))
 
 same-length : tie.Need-same-length
 same-length c = search needs
 
 returns : tie.Need-returns
 returns c =
-    let s = c .before .before .before .before .before .before .before .before in
-    c .before .before .copy-bits .ensures ∙ ap (writeBits (s .args .to .now) (s .args .at)) (edited-keep (s .args .e) (s .args .len) (s .args .n) (s .pre .0 .fits) (s .args .s .now) (s .args .start) (c .before .before .before .before .enum-told .given .1))
+    let s = c .before .before .before .before .before .before .before .before .before in
+    c .before .before .copy-put .ensures ∙ ap (writeBits (s .args .to .now) (s .args .at)) (edited-as (s .args .e) _ (range (s .args .s .now) (s .args .start) (s .args .len)) (c .before .before .before .before .before .e .given .1))
 
 same-length-2 : tie.Need-same-length-2
 same-length-2 c = search needs
@@ -48,22 +46,12 @@ same-length-2 c = search needs
 returns-2 : tie.Need-returns-2
 returns-2 c =
     let s = c .before .before .before .before .before .before .before .before .before in
-    c .before .before .copy-put .ensures ∙ ap (writeBits (s .args .to .now) (s .args .at)) (edited-as (s .args .e) _ (range (s .args .s .now) (s .args .start) (s .args .len)) (c .before .before .before .before .before .e .given .1))
-
-same-length-3 : tie.Need-same-length-3
-same-length-3 c = search needs
-
-returns-3 : tie.Need-returns-3
-returns-3 c =
-    let s = c .before .before .before .before .before .before .before .before .before in
     c .before .before .copy-take .ensures ∙ ap (writeBits (s .args .to .now) (s .args .at)) (edited-as (s .args .e) _ (range (s .args .s .now) (s .args .start) (s .args .len)) (c .before .before .before .before .before .e2 .given .1))
 
 pub copy-edited-spec : {M : Type 1} → statement M
 copy-edited-spec =
     tie.close
     (tie.spec
-    enum-told
-    copy-bits-requires
     enum-known-e
     copy-put-requires
     enum-known-e-2
@@ -71,6 +59,4 @@ copy-edited-spec =
     same-length
     returns
     same-length-2
-    returns-2
-    same-length-3
-    returns-3)
+    returns-2)

@@ -2,11 +2,10 @@
 use mathlib.Core.Path.{ap, _∙_}
 use mathlib.Core.List.{List}
 use Prim.Native.Nat.{ℕ}
+use native.Mathlib.Omega.{arith}
 use Rattle.strings.specs.Bits.{range, writeBits}
-use Rattle.strings.specs.laws.RangeLaws.{range-length}
-use Rattle.codes.specs.code.Edits.{edited}
 use Rattle.strings.specs.laws.PackLaws.{packed-into}
-use Rattle.codes.specs.laws.EditLaws.{edited-length}
+use Rattle.codes.specs.code.Edits.{edited}
 use borrow.Author.Needs.{needs}
 use Rattle.codes.proofs.edits.pack_edited.Statement.{statement}
 use Rattle.codes.proofs.edits.pack_edited.Tie as tie
@@ -18,18 +17,20 @@ clear-bytes-requires : tie.Need-clear-bytes-requires
 clear-bytes-requires c κs = search needs
 
 copy-edited-requires : tie.Need-copy-edited-requires
-copy-edited-requires c κs = search needs
+copy-edited-requires c κs =
+    let s = c .before .before .before .before .before .before .before in
+    let long = s .pre .1 .1 .0 in
+    (s .pre .0, (s .pre .1 .0, record { there = search needs; few = omega arith }))
 
 same-length : tie.Need-same-length
 same-length c = search needs
 
 returns : tie.Need-returns
 returns c =
-    let args = c .before .before .before .before .before .before .before .before .before .before .args in
-    let entry = c .before .before .before .before .before .before .before .before .before .before in
-    c .before .before .copy-edited .ensures
-    ∙ ap (λ (x : List ℕ). writeBits x 0 (edited (args .e) (range (args .s .now) (args .start) (args .len)))) (c .before .before .before .before .before .before .clear-bytes .ensures)
-    ∙ packed-into (args .out .now) (edited (args .e) (range (args .s .now) (args .start) (args .len))) (args .n) (edited-length (args .e) (range (args .s .now) (args .start) (args .len)) (args .len) (args .n) (range-length _ _ _) (entry .pre .0 .fits)) (entry .pre .1 .1)
+    let s = c .before .before .before .before .before .before .before .before .before .before in
+    let bits = edited (s .args .e) (range (s .args .s .now) (s .args .start) (s .args .len)) in
+    c .before .before .copy-edited .ensures ∙ ap (λ (x : List ℕ). writeBits x 0 bits) (c .before .before .before .before .before .before .clear-bytes .ensures)
+    ∙ packed-into (s .args .out .now) bits (s .args .n) (s .pre .1 .1 .0) (s .pre .1 .1 .1 .1)
 
 pub pack-edited-spec : {M : Type 1} → statement M
 pack-edited-spec =

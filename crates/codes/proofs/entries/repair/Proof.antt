@@ -12,8 +12,10 @@ use Rattle.strings.specs.StringRule.{stringRule}
 use Rattle.codes.specs.declared.entries.RepairAnswer.the-variants.{Done}
 use Rattle.codes.specs.Repair.{repairTo}
 use Rattle.codes.specs.code.Edits.{edited}
-use Rattle.codes.specs.Entries.{value, repairRange, repairCall, leaves, saidRepair}
-use Rattle.codes.specs.laws.EditLaws.{repair-fits, repair-found, repair-nothing}
+use Rattle.strings.specs.Results.{value}
+use Rattle.codes.specs.Entries.{repairRange, repairCall, repairLeft, saidRepair}
+use Rattle.codes.specs.laws.EditLaws.{found-is, found-fits, nothing-is}
+use Rattle.codes.specs.laws.RepairLaws.{repair-length}
 use Rattle.codes.specs.laws.EntryLaws.{whole-part, string-few, repair-range-is, repair-bad-string, repair-out-of-range, repair-no-room, repair-value}
 use borrow.Author.Needs.{needs}
 use Rattle.codes.proofs.entries.repair.Statement.{statement}
@@ -29,10 +31,10 @@ range-kept c = sym (c .before .keeps-repair-range .ensures) ∙ not-false _ (c .
 answered : (c : tie.Else3) (o : Option (List Bool))
     → let args = c .before .before .before .before .before .before .before .args in
     repairTo (args .n) (args .a) (range (args .s .now) 0 (args .bits)) ≡ o
-    → leaves (args .out .now) (value o) ≡ leaves (args .out .now) (repairCall (args .s .now) (args .bits) (args .n) (args .a) (length (args .out .now)))
+    → repairLeft (args .out .now) (value o) ≡ repairLeft (args .out .now) (repairCall (args .s .now) (args .bits) (args .n) (args .a) (length (args .out .now)))
 answered c o e =
     let args = c .before .before .before .before .before .before .before .args in
-    sym (ap (leaves (args .out .now)) (repair-value (args .s .now) (args .bits) (args .n) (args .a) (length (args .out .now)) (string-kept (c .before .before .before)) (range-kept (c .before)) (c .if3 .left) o e))
+    sym (ap (repairLeft (args .out .now)) (repair-value (args .s .now) (args .bits) (args .n) (args .a) (length (args .out .now)) (string-kept (c .before .before .before)) (range-kept (c .before)) (c .if3 .left) o e))
 
 keeps-string-rule-requires : tie.Need-keeps-string-rule-requires
 keeps-string-rule-requires c κs = search needs
@@ -41,7 +43,7 @@ returns : tie.Need-returns
 returns c =
     let args = c .before .before .before .before .args in
     let broken = sym (c .before .keeps-string-rule .ensures) ∙ not-true _ (c .if1 .taken) in
-    sym (ap (leaves (args .out .now)) (repair-bad-string (args .s .now) (args .bits) (args .n) (args .a) (length (args .out .now)) broken))
+    sym (ap (repairLeft (args .out .now)) (repair-bad-string (args .s .now) (args .bits) (args .n) (args .a) (length (args .out .now)) broken))
 
 keeps-repair-range-requires : tie.Need-keeps-repair-range-requires
 keeps-repair-range-requires c κs = let args = c .before .before .before .before .args in string-few (args .s .now) (args .bits) (string-kept c)
@@ -50,7 +52,7 @@ returns-2 : tie.Need-returns-2
 returns-2 c =
     let args = c .before .before .before .before .before .before .args in
     let broken = sym (c .before .keeps-repair-range .ensures) ∙ not-true _ (c .if2 .taken) in
-    sym (ap (leaves (args .out .now)) (repair-out-of-range (args .s .now) (args .bits) (args .n) (args .a) (length (args .out .now)) (string-kept (c .before .before)) broken))
+    sym (ap (repairLeft (args .out .now)) (repair-out-of-range (args .s .now) (args .bits) (args .n) (args .a) (length (args .out .now)) (string-kept (c .before .before)) broken))
 
 add-if3 : tie.Need-add-if3
 add-if3 c =
@@ -61,7 +63,7 @@ add-if3 c =
 returns-3 : tie.Need-returns-3
 returns-3 c =
     let args = c .before .before .before .before .before .before .before .args in
-    sym (ap (leaves (args .out .now)) (repair-no-room (args .s .now) (args .bits) (args .n) (args .a) (length (args .out .now)) (string-kept (c .before .before .before)) (range-kept (c .before)) (c .if3 .taken)))
+    sym (ap (repairLeft (args .out .now)) (repair-no-room (args .s .now) (args .bits) (args .n) (args .a) (length (args .out .now)) (string-kept (c .before .before .before)) (range-kept (c .before)) (c .if3 .taken)))
 
 find-repair-requires : tie.Need-find-repair-requires
 find-repair-requires c κs =
@@ -81,12 +83,17 @@ pack-edited-requires c κs =
     let tested = asked .before in
     let args = tested .before .before .before .before .before .before .before .args in
     let apart = repair-range-is (args .bits) (args .n) (args .a) (range-kept (tested .before)) in
-    let bits = range (args .s .now) 0 (args .bits) in (
-      record {
-        part = whole-part (args .s .now) (args .bits) (string-kept (tested .before .before .before));
-        fits = repair-fits (args .a) bits (args .bits) (range-length _ _ _) (args .n) (apart .one) (found .given .0 .0) (sym (asked .find-repair .ensures) ∙ found .given .1);
-      },
-      (apart .few, tested .if3 .left),
+    let bits = range (args .s .now) 0 (args .bits) in
+    let e = found .given .0 .0 in
+    let is = found-is (asked .find-repair .result) bits _ (asked .find-repair .ensures .0) e (found .given .1) in (
+      whole-part (args .s .now) (args .bits) (string-kept (tested .before .before .before)),
+      (
+        found-fits (asked .find-repair .result) (args .bits) e (asked .find-repair .ensures .1) (found .given .1),
+        (
+          repair-length (args .n) (args .a) (args .bits) bits (edited e bits) (range-length _ _ _) (apart .one) is,
+          (apart .few, tested .if3 .left),
+        ),
+      ),
     )
 
 returns-4 : tie.Need-returns-4
@@ -94,7 +101,7 @@ returns-4 c =
     let asked = c .before .before in
     let args = asked .before .before .before .before .before .before .before .before .args in
     let bits = range (args .s .now) 0 (args .bits) in
-    answered (asked .before) none (repair-nothing (args .n) (args .a) bits (asked .find-repair .result) (asked .find-repair .ensures) (c .enum-told .given .1))
+    answered (asked .before) none (nothing-is (asked .find-repair .result) bits _ (asked .find-repair .ensures .0) (c .enum-told .given .1))
 
 same-length : tie.Need-same-length
 same-length c = search needs
@@ -107,7 +114,7 @@ returns-5 c =
     let bits = range (args .s .now) 0 (args .bits) in
     ap (saidRepair Done) (c .before .before .pack-edited .ensures)
     ∙ answered (asked .before) (some (edited (found .given .0 .0) bits))
-    (repair-found (args .n) (args .a) bits (asked .find-repair .result) (found .given .0 .0) (asked .find-repair .ensures) (found .given .1))
+    (found-is (asked .find-repair .result) bits _ (asked .find-repair .ensures .0) (found .given .0 .0) (found .given .1))
 
 pub repair-spec : {M : Type 1} → statement M
 repair-spec =

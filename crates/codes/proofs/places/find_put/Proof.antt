@@ -1,8 +1,7 @@
 -- `codes::find_put` meets its contract. Assumes nothing.
-use Prim.Native.Nat.{_-_}
 use Rattle.strings.specs.Bits.{range}
 use Rattle.strings.specs.laws.RangeLaws.{range-length}
-use Rattle.codes.specs.laws.EditLaws.{put-repair-above, put-repair-found}
+use Rattle.codes.specs.laws.EditLaws.{put-none}
 use borrow.Author.Needs.{needs}
 use Rattle.codes.proofs.places.find_put.Statement.{statement}
 use Rattle.codes.proofs.places.find_put.Tie as tie
@@ -13,15 +12,13 @@ add-if1 c = search needs
 returns : tie.Need-returns
 returns c =
     let args = c .before .before .args in
-    put-repair-above (args .a) (range (args .s .now) (args .start) (args .len)) (args .len) (range-length _ _ _) (c .if1 .taken)
+    (put-none (args .a) (range (args .s .now) (args .start) (args .len)) (args .len) (range-length _ _ _) (c .if1 .taken), tt)
 
 put-edit-requires : tie.Need-put-edit-requires
 put-edit-requires c κs = search needs
 
 returns-2 : tie.Need-returns-2
-returns-2 c =
-    let args = c .before .before .before .args in
-    put-repair-found (args .a) (range (args .s .now) (args .start) (args .len)) (args .len) (range-length _ _ _) (c .put-edit .result) (c .before .if1 .left) (c .put-edit .ensures)
+returns-2 c = c .put-edit .ensures
 
 pub find-put-spec : {M : Type 1} → statement M
 find-put-spec = tie.close (tie.spec add-if1 returns put-edit-requires returns-2)

@@ -7,14 +7,14 @@ use borrow.Author.Needs.{needs}
 use Rattle.codes.proofs.rows.hash_bit.Statement.{statement}
 use Rattle.codes.proofs.rows.hash_bit.Tie as tie
 
-step-requires : tie.Need-step-requires
-step-requires c κs = search needs
+xorshift-requires : tie.Need-xorshift-requires
+xorshift-requires c κs = search needs
 
 returns : tie.Need-returns
-returns c = went-bit (c .before .before .args .sum) (c .before .before .args .row) _ (c .before .step .result) (c .before .before .args .b) (ap (λ (t : Bool). bitXor (c .before .before .args .sum) (cond t (c .before .step .result) 0)) (sym (c .if1 .taken))) (c .before .step .ensures)
+returns c = went-bit (c .before .before .args .sum) (c .before .before .args .row) _ (c .before .xorshift .result) (c .before .before .args .b) (ap (λ (t : Bool). bitXor (c .before .before .args .sum) (cond t (c .before .xorshift .result) 0)) (sym (c .if1 .taken))) (c .before .xorshift .ensures)
 
 returns-2 : tie.Need-returns-2
-returns-2 c = went-bit (c .before .before .args .sum) (c .before .before .args .row) _ (c .before .step .result) (c .before .before .args .b) (sym (xor-zero-r (c .before .before .args .sum)) ∙ ap (λ (t : Bool). bitXor (c .before .before .args .sum) (cond t (c .before .step .result) 0)) (sym (c .if1 .left))) (c .before .step .ensures)
+returns-2 c = went-bit (c .before .before .args .sum) (c .before .before .args .row) _ (c .before .xorshift .result) (c .before .before .args .b) (sym (xor-zero-r (c .before .before .args .sum)) ∙ ap (λ (t : Bool). bitXor (c .before .before .args .sum) (cond t (c .before .xorshift .result) 0)) (sym (c .if1 .left))) (c .before .xorshift .ensures)
 
 pub hash-bit-spec : {M : Type 1} → statement M
-hash-bit-spec = tie.close (tie.spec step-requires returns returns-2)
+hash-bit-spec = tie.close (tie.spec xorshift-requires returns returns-2)

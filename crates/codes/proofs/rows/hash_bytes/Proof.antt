@@ -5,7 +5,7 @@ use lib.ListN.{length}
 use lib.Bits.{bitXor}
 use Rattle.strings.specs.Bits.{range, byteBits}
 use Rattle.strings.specs.laws.ByteLaws.{eight-first, eight-next, eight-last}
-use Rattle.codes.specs.Hash.{row as rowOf}
+use Rattle.codes.specs.Hash.{hashRow}
 use Rattle.codes.specs.code.HashForms.{wholeHash, Went}
 use Rattle.codes.specs.laws.HashLaws.{went-first, went-last, went-next}
 use borrow.Author.Needs.{needs}
@@ -13,7 +13,7 @@ use Rattle.codes.proofs.rows.hash_bytes.Statement.{statement}
 use Rattle.codes.proofs.rows.hash_bytes.Tie as tie
 
 abbrev Inv-loop : tie.InvT-loop
-Inv-loop s start count sum row acc₀ v₀ i₀ acc v i = (i ≤ count) × Went acc v (range s (start + 8 * i) (8 * (count - i))) (bitXor sum (wholeHash row (range s start (8 * count)))) (rowOf row (length (range s start (8 * count))))
+Inv-loop s start count sum row acc₀ v₀ i₀ acc v i = (i ≤ count) × Went acc v (range s (start + 8 * i) (8 * (count - i))) (bitXor sum (wholeHash row (range s start (8 * count)))) (hashRow row (length (range s start (8 * count))))
 
 abbrev μ-loop : tie.MeasureT-loop
 μ-loop s start count sum row acc₀ v₀ i₀ acc v i = count - i

@@ -7,7 +7,7 @@ use lib.ListN.{length}
 use lib.Bits.{bitXor}
 use Rattle.strings.specs.Bits.{range}
 use Rattle.strings.specs.laws.RangeLaws.{rest, rest-first, rest-last, rest-is}
-use Rattle.codes.specs.Hash.{row as rowOf}
+use Rattle.codes.specs.Hash.{hashRow}
 use Rattle.codes.specs.code.HashForms.{wholeHash, Went}
 use Rattle.codes.specs.laws.HashLaws.{went-first, went-last, went-next}
 use borrow.Author.Needs.{needs}
@@ -15,7 +15,7 @@ use Rattle.codes.proofs.rows.hash_singly.Statement.{statement}
 use Rattle.codes.proofs.rows.hash_singly.Tie as tie
 
 abbrev Inv-loop : tie.InvT-loop
-Inv-loop s start len sum row acc₀ v₀ i₀ acc v i = (i ≤ len) × Went acc v (rest s start len i) (bitXor sum (wholeHash row (range s start len))) (rowOf row (length (range s start len)))
+Inv-loop s start len sum row acc₀ v₀ i₀ acc v i = (i ≤ len) × Went acc v (rest s start len i) (bitXor sum (wholeHash row (range s start len))) (hashRow row (length (range s start len)))
 
 abbrev μ-loop : tie.MeasureT-loop
 μ-loop s start len sum row acc₀ v₀ i₀ acc v i = len - i

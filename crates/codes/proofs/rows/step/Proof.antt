@@ -1,12 +1,12 @@
--- `codes::step` meets its contract: the definition is in the terms of the machine's shifts. Assumes nothing.
+-- `codes::xorshift` meets its contract: the definition is in the terms of the machine's shifts. Assumes nothing.
 use mathlib.Core.Path.{refl}
-use Rattle.codes.specs.Hash.{step, xorLeft, xorRight}
-use Rattle.codes.proofs.rows.step.Statement.{statement}
-use Rattle.codes.proofs.rows.step.Tie as tie
+use Rattle.codes.specs.Hash.{xorshift, xorLeft, xorRight}
+use Rattle.codes.proofs.rows.xorshift.Statement.{statement}
+use Rattle.codes.proofs.rows.xorshift.Tie as tie
 
 returns : tie.Need-returns
-unfolding step xorLeft xorRight
+unfolding xorshift xorLeft xorRight
 returns c = refl
 
-pub step-spec : {M : Type 1} → statement M
-step-spec = tie.close (tie.spec returns)
+pub xorshift-spec : {M : Type 1} → statement M
+xorshift-spec = tie.close (tie.spec returns)
