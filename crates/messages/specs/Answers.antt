@@ -1,18 +1,16 @@
 -- 01, "Messages": answers as values and as bytes, and what a rebuilder that awaits one reads.
-use mathlib.Core.Bool.{Bool, true, false, not}
+use mathlib.Core.Bool.{Bool}
 use mathlib.Core.List.{List, _++_}
-use mathlib.Core.Option.{Option, none, some}
-use Prim.Native.Nat.{ℕ, _+_, _*_, _^_}
+use Prim.Native.Nat.{ℕ, _+_, _*_, _^_, _≤_}
 use lib.ListN.{length, drop}
 use lib.Dec.{ltb, leb, eqb}
-use Rattle.strings.specs.Bits.{range, bytesFor, pack}
-use Rattle.strings.specs.StringRule.{stringRule}
-use Rattle.strings.specs.declared.Refusal.{Refusal}
+use Rattle.strings.specs.Bits.{maxBits, range, bytesFor, pack}
+use Rattle.strings.specs.StringRule.{stringRule, IsString}
+use Rattle.strings.specs.Refusals.{refusalNumber}
+use Rattle.strings.specs.Results.{Result, refusal, value, unless, andThen}
 use Rattle.strings.specs.declared.Refusal.the-variants.{Truncated, BadKind, TrailingBytes, OutOfRange}
 use Rattle.messages.specs.declared.Kind.{Kind}
 use Rattle.messages.specs.declared.Kind.the-variants.{Open, Hash, Syndrome, Bits}
-use Rattle.messages.specs.declared.numbers.NumberRead.{NumberRead}
-use Rattle.messages.specs.declared.numbers.NumberRead.the-variants.{Value, NoNumber}
 use Rattle.messages.specs.declared.AnswerRead.{AnswerRead}
 use Rattle.messages.specs.declared.AnswerRead.the-variants.{IsSize, IsHash, IsSyndrome, IsBits, NoAnswer}
 use Rattle.messages.specs.Numbers.{number, numberAt}
@@ -31,63 +29,67 @@ answerBytes (hashAnswer v) = number (kindNumber Hash) ++ number v
 answerBytes (syndromeAnswer a v) = number (kindNumber Syndrome) ++ (number a ++ number v)
 answerBytes (bitsAnswer l) = number (kindNumber Bits) ++ pack l
 
-abbrev pub thenAnswer : NumberRead → (ℕ → ℕ → AnswerRead) → AnswerRead
-thenAnswer (Value v at) f = f v at
-thenAnswer (NoNumber e) f = NoAnswer e
-
-abbrev pub noAnswerIf : Bool → Refusal → AnswerRead → AnswerRead
-noAnswerIf true e a = NoAnswer e
-noAnswerIf false e a = a
-
 -- the fields of an answer from position at on, of a kind, to a question of len bits under h: 4 and 5 as met, then 7, then 8
-unfoldable pub sizeAt : List ℕ → ℕ → AnswerRead
+unfoldable pub sizeAt : List ℕ → ℕ → Result Answer
 sizeAt s at =
-    thenAnswer (numberAt s at) (λ n end.
-    noAnswerIf (ltb end (length s)) TrailingBytes (
-    noAnswerIf (ltb 65536 n) OutOfRange (
-    IsSize n)))
+    andThen (numberAt s at) (λ (n, end).
+    unless (leb (length s) end) TrailingBytes (
+    unless (leb n maxBits) OutOfRange (
+    value (sizeAnswer n))))
 
-unfoldable pub hashAt : ℕ → List ℕ → ℕ → AnswerRead
+unfoldable pub hashAt : ℕ → List ℕ → ℕ → Result Answer
 hashAt h s at =
-    thenAnswer (numberAt s at) (λ v end.
-    noAnswerIf (ltb end (length s)) TrailingBytes (
-    noAnswerIf (leb (2 ^ h) v) OutOfRange (
-    IsHash v)))
+    andThen (numberAt s at) (λ (v, end).
+    unless (leb (length s) end) TrailingBytes (
+    unless (ltb v (2 ^ h)) OutOfRange (
+    value (hashAnswer v))))
 
-unfoldable pub syndromeAt : ℕ → ℕ → List ℕ → ℕ → AnswerRead
+unfoldable pub syndromeAt : ℕ → ℕ → List ℕ → ℕ → Result Answer
 syndromeAt len h s at =
-    thenAnswer (numberAt s at) (λ a b.
-    thenAnswer (numberAt s b) (λ v end.
-    noAnswerIf (ltb end (length s)) TrailingBytes (
-    noAnswerIf (ltb len a) OutOfRange (
-    noAnswerIf (leb (2 ^ h) v) OutOfRange (
-    IsSyndrome a v)))))
+    andThen (numberAt s at) (λ (a, b).
+    andThen (numberAt s b) (λ (v, end).
+    unless (leb (length s) end) TrailingBytes (
+    unless (leb a len) OutOfRange (
+    unless (ltb v (2 ^ h)) OutOfRange (
+    value (syndromeAnswer a v))))))
 
 -- exactly as many bytes as len bits take, and these a string of len bits: spare bits zero
-unfoldable pub bitsAt : ℕ → List ℕ → ℕ → AnswerRead
+unfoldable pub bitsAt : ℕ → List ℕ → ℕ → Result Answer
 bitsAt len s at =
-    noAnswerIf (ltb (length s) (at + bytesFor len)) Truncated (
-    noAnswerIf (ltb (at + bytesFor len) (length s)) TrailingBytes (
-    noAnswerIf (not (stringRule (drop at s) len)) OutOfRange (
-    IsBits at)))
+    unless (leb (at + bytesFor len) (length s)) Truncated (
+    unless (leb (length s) (at + bytesFor len)) TrailingBytes (
+    unless (stringRule (drop at s) len) OutOfRange (
+    value (bitsAnswer (range s (8 * at) len)))))
 
-unfoldable pub answerFields : Kind → ℕ → ℕ → List ℕ → ℕ → AnswerRead
+unfoldable pub answerFields : Kind → ℕ → ℕ → List ℕ → ℕ → Result Answer
 answerFields Open len h s at = sizeAt s at
 answerFields Hash len h s at = hashAt h s at
 answerFields Syndrome len h s at = syndromeAt len h s at
 answerFields Bits len h s at = bitsAt len s at
 
 -- the answer of the awaited kind: any other kind is 6
-unfoldable pub readAnswer : Kind → ℕ → ℕ → List ℕ → AnswerRead
+unfoldable pub readAnswer : Kind → ℕ → ℕ → List ℕ → Result Answer
 readAnswer kind len h s =
-    thenAnswer (numberAt s 0) (λ v at.
-    noAnswerIf (not (eqb v (kindNumber kind))) BadKind (
+    andThen (numberAt s 0) (λ (v, at).
+    unless (eqb v (kindNumber kind)) BadKind (
     answerFields kind len h s at))
 
--- the value that was read: bits are those of the message from byte at on
-abbrev pub answerValue : List ℕ → ℕ → AnswerRead → Option Answer
-answerValue s len (IsSize n) = some (sizeAnswer n)
-answerValue s len (IsHash v) = some (hashAnswer v)
-answerValue s len (IsSyndrome a v) = some (syndromeAnswer a v)
-answerValue s len (IsBits at) = some (bitsAnswer (range s (8 * at) len))
-answerValue s len (NoAnswer e) = none
+-- what the code's answer says of the message s, where len bits are awaited: bits are left where they lie, from byte at on
+abbrev pub saidAnswer : List ℕ → ℕ → AnswerRead → Result Answer
+saidAnswer s len (IsSize n) = value (sizeAnswer n)
+saidAnswer s len (IsHash v) = value (hashAnswer v)
+saidAnswer s len (IsSyndrome a v) = value (syndromeAnswer a v)
+saidAnswer s len (IsBits at) = value (bitsAnswer (range s (8 * at) len))
+saidAnswer s len (NoAnswer e) = refusal (refusalNumber e)
+
+-- and they are the rest of the message, a string of len bits
+pub record BitsAt (len : ℕ) (s : List ℕ) (at : ℕ) : Type 0 where
+  pub inside : at ≤ length s
+  pub string : IsString (drop at s) len
+
+abbrev pub BitsThere : List ℕ → ℕ → AnswerRead → Type 0
+BitsThere s len (IsSize n) = Unit {0}
+BitsThere s len (IsHash v) = Unit {0}
+BitsThere s len (IsSyndrome a v) = Unit {0}
+BitsThere s len (IsBits at) = BitsAt len s at
+BitsThere s len (NoAnswer e) = Unit {0}

@@ -1,12 +1,11 @@
 -- 01, "Messages": the four kinds, their numbers, and the kind at the front of a message.
 use mathlib.Core.List.{List}
-use mathlib.Core.Option.{Option, none, some}
 use Prim.Native.Nat.{ℕ, zero, suc}
+use Rattle.strings.specs.Refusals.{refusalNumber}
+use Rattle.strings.specs.Results.{Result, refusal, value, andThen, mapped}
 use Rattle.strings.specs.declared.Refusal.the-variants.{BadKind}
 use Rattle.messages.specs.declared.Kind.{Kind}
 use Rattle.messages.specs.declared.Kind.the-variants.{Open, Hash, Syndrome, Bits}
-use Rattle.messages.specs.declared.numbers.NumberRead.{NumberRead}
-use Rattle.messages.specs.declared.numbers.NumberRead.the-variants.{Value, NoNumber}
 use Rattle.messages.specs.declared.KindRead.{KindRead}
 use Rattle.messages.specs.declared.KindRead.the-variants.{Known, NoKind}
 use Rattle.messages.specs.Numbers.{numberAt}
@@ -17,22 +16,19 @@ kindNumber Hash = 1
 kindNumber Syndrome = 2
 kindNumber Bits = 3
 
--- the known kind of a number
-abbrev pub kindOf : ℕ → Option Kind
-kindOf zero = some Open
-kindOf (suc zero) = some Hash
-kindOf (suc (suc zero)) = some Syndrome
-kindOf (suc (suc (suc zero))) = some Bits
-kindOf (suc (suc (suc (suc v)))) = none
+-- the kind of a number: 6 for an unknown one
+abbrev pub kindOf : ℕ → Result Kind
+kindOf zero = value Open
+kindOf (suc zero) = value Hash
+kindOf (suc (suc zero)) = value Syndrome
+kindOf (suc (suc (suc zero))) = value Bits
+kindOf (suc (suc (suc (suc v)))) = refusal (refusalNumber BadKind)
 
-abbrev pub knownKind : Option Kind → ℕ → KindRead
-knownKind none at = NoKind BadKind
-knownKind (some k) at = Known k at
+-- the kind of the message s and the position behind it: 4 or 5 as its number is read, then 6
+unfoldable pub kindAt : List ℕ → Result (Kind × ℕ)
+kindAt s = andThen (numberAt s 0) (λ (v, at). mapped (λ k. (k, at)) (kindOf v))
 
-abbrev pub kindRead : NumberRead → KindRead
-kindRead (NoNumber e) = NoKind e
-kindRead (Value v at) = knownKind (kindOf v) at
-
--- the kind of the message s: 4 or 5 as its number is read, 6 for an unknown one
-unfoldable pub kindAt : List ℕ → KindRead
-kindAt s = kindRead (numberAt s 0)
+-- what the code's answer says
+abbrev pub saidKind : KindRead → Result (Kind × ℕ)
+saidKind (Known k at) = value (k, at)
+saidKind (NoKind e) = refusal (refusalNumber e)

@@ -3,7 +3,9 @@ use mathlib.Core.Bool.{cond}
 use mathlib.Core.List.{List, [], _∷_}
 use Prim.Native.Nat.{ℕ, zero, suc, _+_, _-_, _*_, _/_, _%_}
 use lib.ListN.{length, getD}
-use lib.Dec.{ltb, leb, eqb}
+use lib.Dec.{ltb, leb}
+use Rattle.strings.specs.Refusals.{refusalNumber}
+use Rattle.strings.specs.Results.{Result, refusal, value, unless}
 use Rattle.strings.specs.declared.Refusal.the-variants.{Truncated, BadNumber}
 use Rattle.messages.specs.declared.numbers.NumberRead.{NumberRead}
 use Rattle.messages.specs.declared.numbers.NumberRead.the-variants.{Value, NoNumber}
@@ -17,23 +19,28 @@ groups (suc k) v = cond (ltb v 128) (v ∷ []) ((v % 128 + 128) ∷ groups k (v 
 unfoldable pub number : ℕ → List ℕ
 number v = groups 4 v
 
--- Reading goes byte by byte. After bytes that gave the value v, the byte at position at counts w-fold, and k more may follow it:
--- 4 if the message ends; 5 for a zero last byte after another byte; 5 for a fifth byte (k is 0) above hexadecimal 0f
-unfoldable pub nextByte : ℕ → List ℕ → ℕ → ℕ → ℕ → NumberRead
+-- Reading gives the number and the position behind it. It goes byte by byte: after bytes that gave the value v, the byte at position at counts
+-- w-fold, and k more may follow it. 4 if the message ends; 5 for a zero last byte after another byte; 5 for a fifth byte (k is 0) above hexadecimal 0f
+unfoldable pub nextByte : ℕ → List ℕ → ℕ → ℕ → ℕ → Result (ℕ × ℕ)
 nextByte zero s at w v =
-    cond (leb (length s) at) (NoNumber Truncated) (
-    cond (eqb (getD s at 0) 0) (NoNumber BadNumber) (
-    cond (ltb 15 (getD s at 0)) (NoNumber BadNumber) (
-    Value (v + w * getD s at 0) (at + 1))))
+    unless (ltb at (length s)) Truncated (
+    unless (ltb 0 (getD s at 0)) BadNumber (
+    unless (leb (getD s at 0) 15) BadNumber (
+    value (v + w * getD s at 0, at + 1))))
 nextByte (suc k) s at w v =
-    cond (leb (length s) at) (NoNumber Truncated) (
-    cond (eqb (getD s at 0) 0) (NoNumber BadNumber) (
-    cond (ltb (getD s at 0) 128) (Value (v + w * getD s at 0) (at + 1)) (
+    unless (ltb at (length s)) Truncated (
+    unless (ltb 0 (getD s at 0)) BadNumber (
+    cond (ltb (getD s at 0) 128) (value (v + w * getD s at 0, at + 1)) (
     nextByte k s (at + 1) (w * 128) (v + w * (getD s at 0 - 128)))))
 
 -- the number at a position of the message s, and the position behind it; a first byte may be zero
-unfoldable pub numberAt : List ℕ → ℕ → NumberRead
+unfoldable pub numberAt : List ℕ → ℕ → Result (ℕ × ℕ)
 numberAt s at =
-    cond (leb (length s) at) (NoNumber Truncated) (
-    cond (ltb (getD s at 0) 128) (Value (getD s at 0) (at + 1)) (
+    unless (ltb at (length s)) Truncated (
+    cond (ltb (getD s at 0) 128) (value (getD s at 0, at + 1)) (
     nextByte 3 s (at + 1) 128 (getD s at 0 - 128)))
+
+-- what the code's answer says
+abbrev pub saidNumber : NumberRead → Result (ℕ × ℕ)
+saidNumber (Value v at) = value (v, at)
+saidNumber (NoNumber e) = refusal (refusalNumber e)

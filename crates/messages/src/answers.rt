@@ -1,11 +1,11 @@
 // Answers: written by a holder, read by a rebuilder that awaits one.
 ghost use mathlib.Core.Path.{_≡_};
-ghost use Prim.Native.Nat.{_^_, _≤_};
+ghost use Prim.Native.Nat.{ℕ, _^_, _≤_};
 ghost use lib.ListN.{length};
-ghost use lib.Dec.{leb};
+ghost use lib.Dec.{ltb};
 ghost use Rattle.strings.specs.Bits.{range, Part};
-ghost use Rattle.messages.specs.Answers.{sizeAnswer, hashAnswer, syndromeAnswer, bitsAnswer, answerBytes, sizeAt, hashAt, syndromeAt, bitsAt, readAnswer};
-ghost use Rattle.messages.specs.Writing.{leaves, putFront};
+ghost use Rattle.messages.specs.Answers.{sizeAnswer, hashAnswer, syndromeAnswer, bitsAnswer, answerBytes, sizeAt, hashAt, syndromeAt, bitsAt, readAnswer, saidAnswer, BitsThere};
+ghost use Rattle.messages.specs.Writing.{saidWrite, putFront};
 use crate::AnswerRead;
 use crate::Kind;
 use crate::WriteResult;
@@ -20,21 +20,21 @@ use strings::Refusal;
 
 // The answer to an opening: n.
 pub fn write_size(n: u32, buf: &mut [u8]) -> WriteResult
-    ensures { λ r. ⌜ leaves r (now (buf .exit)) ≡ putFront (answerBytes (sizeAnswer n)) (now (buf .entry)) ⌝ }
+    ensures { λ r. ⌜ saidWrite r (now (buf .exit)) ≡ putFront (answerBytes (sizeAnswer n)) (now (buf .entry)) ⌝ }
 {
     write_one(Kind::Open, n, buf)
 }
 
 // The answer to a hash question.
 pub fn write_hash(v: u32, buf: &mut [u8]) -> WriteResult
-    ensures { λ r. ⌜ leaves r (now (buf .exit)) ≡ putFront (answerBytes (hashAnswer v)) (now (buf .entry)) ⌝ }
+    ensures { λ r. ⌜ saidWrite r (now (buf .exit)) ≡ putFront (answerBytes (hashAnswer v)) (now (buf .entry)) ⌝ }
 {
     write_one(Kind::Hash, v, buf)
 }
 
 // The answer to a syndrome question: syndrome and hash.
 pub fn write_syndrome(a: u32, v: u32, buf: &mut [u8]) -> WriteResult
-    ensures { λ r. ⌜ leaves r (now (buf .exit)) ≡ putFront (answerBytes (syndromeAnswer a v)) (now (buf .entry)) ⌝ }
+    ensures { λ r. ⌜ saidWrite r (now (buf .exit)) ≡ putFront (answerBytes (syndromeAnswer a v)) (now (buf .entry)) ⌝ }
 {
     write_two(Kind::Syndrome, a, v, buf)
 }
@@ -42,30 +42,31 @@ pub fn write_syndrome(a: u32, v: u32, buf: &mut [u8]) -> WriteResult
 // The answer to a bits question: the len bits of `x` from bit `start` on, which the holder has tested to lie in X.
 pub fn write_bits(x: &[u8], start: usize, len: usize, buf: &mut [u8]) -> WriteResult
     requires { ⌜ Part (now x) start len ⌝ }
-    ensures { λ r. ⌜ leaves r (now (buf .exit)) ≡ putFront (answerBytes (bitsAnswer (range (now (x .entry)) start len))) (now (buf .entry)) ⌝ }
+    ensures { λ r. ⌜ saidWrite r (now (buf .exit)) ≡ putFront (answerBytes (bitsAnswer (range (now (x .entry)) start len))) (now (buf .entry)) ⌝ }
 {
     let size = 1 + (len + 7) / 8;
     if buf.len() < size {
         return WriteResult::TooShort;
     }
-    let at = put_number(buf, 0, 3);
+    let k = kind_number(Kind::Bits);
+    let at = put_number(buf, 0, k);
     put_bits(x, start, len, buf, at);
     WriteResult::Written(size)
 }
 
-// Whether v is 2^h or more.
-fn too_wide(v: u32, h: u32) -> bool
-    ensures { λ r. ⌜ r ≡ leb (2 ^ h) v ⌝ }
+// Whether v can be a hash of h bits: it is below 2^h.
+fn is_hash(v: u32, h: u32) -> bool
+    ensures { λ r. ⌜ r ≡ ltb v (2 ^ h) ⌝ }
 {
     if 32 <= h {
-        return false;
+        return true;
     }
-    (1u32 << h) <= v
+    v < (1u32 << h)
 }
 
-// The fields of an opening's answer from position `at` on.
+// The field of an opening's answer from position `at` on. It is read alike whatever the length awaited.
 fn read_size(s: &[u8], at: usize) -> AnswerRead
-    ensures { λ r. ⌜ r ≡ sizeAt (now (s .entry)) at ⌝ }
+    ensures { λ r. ⌜ ((len : ℕ) → saidAnswer (now (s .entry)) len r ≡ sizeAt (now (s .entry)) at) ⌝ }
 {
     match next_number(s, at) {
         NumberRead::NoNumber(e) => AnswerRead::NoAnswer(e),
@@ -73,7 +74,7 @@ fn read_size(s: &[u8], at: usize) -> AnswerRead
             if end < s.len() {
                 return AnswerRead::NoAnswer(Refusal::TrailingBytes);
             }
-            if 65536 < n {
+            if strings::MAX_BITS < n as usize {
                 return AnswerRead::NoAnswer(Refusal::OutOfRange);
             }
             AnswerRead::IsSize(n)
@@ -83,7 +84,7 @@ fn read_size(s: &[u8], at: usize) -> AnswerRead
 
 // The field of a hash question's answer.
 fn read_hash(h: u32, s: &[u8], at: usize) -> AnswerRead
-    ensures { λ r. ⌜ r ≡ hashAt h (now (s .entry)) at ⌝ }
+    ensures { λ r. ⌜ ((len : ℕ) → saidAnswer (now (s .entry)) len r ≡ hashAt h (now (s .entry)) at) ⌝ }
 {
     match next_number(s, at) {
         NumberRead::NoNumber(e) => AnswerRead::NoAnswer(e),
@@ -91,7 +92,7 @@ fn read_hash(h: u32, s: &[u8], at: usize) -> AnswerRead
             if end < s.len() {
                 return AnswerRead::NoAnswer(Refusal::TrailingBytes);
             }
-            if too_wide(v, h) {
+            if !is_hash(v, h) {
                 return AnswerRead::NoAnswer(Refusal::OutOfRange);
             }
             AnswerRead::IsHash(v)
@@ -101,7 +102,7 @@ fn read_hash(h: u32, s: &[u8], at: usize) -> AnswerRead
 
 // The fields of a syndrome question's answer, where the range asked for has len bits.
 fn read_syndrome(len: u32, h: u32, s: &[u8], at: usize) -> AnswerRead
-    ensures { λ r. ⌜ r ≡ syndromeAt len h (now (s .entry)) at ⌝ }
+    ensures { λ r. ⌜ saidAnswer (now (s .entry)) len r ≡ syndromeAt len h (now (s .entry)) at ⌝ }
 {
     match next_number(s, at) {
         NumberRead::NoNumber(e) => AnswerRead::NoAnswer(e),
@@ -114,7 +115,7 @@ fn read_syndrome(len: u32, h: u32, s: &[u8], at: usize) -> AnswerRead
                 if len < a {
                     return AnswerRead::NoAnswer(Refusal::OutOfRange);
                 }
-                if too_wide(v, h) {
+                if !is_hash(v, h) {
                     return AnswerRead::NoAnswer(Refusal::OutOfRange);
                 }
                 AnswerRead::IsSyndrome(a, v)
@@ -126,7 +127,8 @@ fn read_syndrome(len: u32, h: u32, s: &[u8], at: usize) -> AnswerRead
 // The len bits of a bits question's answer, from byte `at` on: they are tested where they lie.
 fn read_bits(len: u32, s: &[u8], at: usize) -> AnswerRead
     requires { ⌜ at ≤ length (now s) ⌝ }
-    ensures { λ r. ⌜ r ≡ bitsAt len (now (s .entry)) at ⌝ }
+    ensures { λ r. ⌜ saidAnswer (now (s .entry)) len r ≡ bitsAt len (now (s .entry)) at ⌝ }
+    ensures { λ r. ⌜ BitsThere (now (s .entry)) len r ⌝ }
 {
     let bits = len as usize;
     let bytes = (bits + 7) / 8;
@@ -144,9 +146,10 @@ fn read_bits(len: u32, s: &[u8], at: usize) -> AnswerRead
     AnswerRead::IsBits(at)
 }
 
-// The answer of the awaited kind to a question of len bits under h.
+// The answer of the awaited kind to a question of len bits under h. Bits are handed on as the position at which they begin.
 pub fn read_answer(kind: Kind, len: u32, h: u32, s: &[u8]) -> AnswerRead
-    ensures { λ r. ⌜ r ≡ readAnswer kind len h (now (s .entry)) ⌝ }
+    ensures { λ r. ⌜ saidAnswer (now (s .entry)) len r ≡ readAnswer kind len h (now (s .entry)) ⌝ }
+    ensures { λ r. ⌜ BitsThere (now (s .entry)) len r ⌝ }
 {
     match next_number(s, 0) {
         NumberRead::NoNumber(e) => AnswerRead::NoAnswer(e),

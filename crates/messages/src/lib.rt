@@ -1,6 +1,6 @@
 // Messages: the third layer. Numbers, questions and answers as bytes.
 // Refusals 4 to 7 are all met here. Of 8, what a message decides together with n, h and the length awaited is tested here, behind 7:
-// version, h, key, n above 65,536, a range empty or past n, a syndrome above the length, a hash of 2^h or more, spare bits set.
+// version, h, key, n above MAX_BITS, a range empty or past n, a syndrome above the length, a hash of 2^h or more, spare bits set.
 use strings::Refusal;
 
 mod answers;

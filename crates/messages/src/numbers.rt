@@ -3,7 +3,7 @@ ghost use mathlib.Core.Path.{_≡_};
 ghost use Prim.Native.Nat.{_+_, _≤_, _<_};
 ghost use lib.ListN.{length};
 ghost use lib.Seq.{sets};
-ghost use Rattle.messages.specs.Numbers.{number, nextByte, numberAt};
+ghost use Rattle.messages.specs.Numbers.{number, nextByte, numberAt, saidNumber};
 use strings::Refusal;
 
 // What reading a number at a position gave: its value and the position behind it, or why not.
@@ -18,10 +18,10 @@ fn wide(x: u8) -> u32
     x as u32
 }
 
-// The fifth byte of a number, at index i, after four that gave v: it is the last.
+// The fifth byte of a number, at index i, after four that gave v below 2^28: it is the last, and counts 2^28-fold.
 fn read_fifth(s: &[u8], i: usize, v: u32) -> NumberRead
     requires { ⌜ v < 268435456 ⌝ }
-    ensures { λ r. ⌜ r ≡ nextByte 0 (now (s .entry)) i 268435456 v ⌝ }
+    ensures { λ r. ⌜ saidNumber r ≡ nextByte 0 (now (s .entry)) i 268435456 v ⌝ }
 {
     if s.len() <= i {
         return NumberRead::NoNumber(Refusal::Truncated);
@@ -38,7 +38,7 @@ fn read_fifth(s: &[u8], i: usize, v: u32) -> NumberRead
 
 // The number at position `at`, byte by byte: v so far, the next byte counts w-fold, and k more may follow it.
 pub fn read_number(s: &[u8], at: usize) -> NumberRead
-    ensures { λ r. ⌜ r ≡ numberAt (now (s .entry)) at ⌝ }
+    ensures { λ r. ⌜ saidNumber r ≡ numberAt (now (s .entry)) at ⌝ }
 {
     if s.len() <= at {
         return NumberRead::NoNumber(Refusal::Truncated);

@@ -1,13 +1,13 @@
 // Questions: written by a rebuilder, read by a holder.
 ghost use mathlib.Core.Path.{_≡_};
-ghost use mathlib.Core.List.{_++_};
-ghost use Rattle.messages.specs.Numbers.{number};
-ghost use Rattle.messages.specs.Questions.{questionBytes, asking, openingIn, openingAt, rangeIn, rangeAt, fieldsAt};
-ghost use Rattle.messages.specs.Writing.{leaves, putFront};
+ghost use Rattle.messages.specs.Questions.{questionBytes, asking, openingIn, openingAt, rangeIn, rangeAt, fieldsAt, saidQuestion};
+ghost use Rattle.messages.specs.declared.Question.the-variants.{AskOpen};
+ghost use Rattle.messages.specs.Writing.{saidWrite, putFront};
 use crate::Kind;
 use crate::Question;
 use crate::QuestionRead;
 use crate::WriteResult;
+use crate::kinds::kind_number;
 use crate::numbers::NumberRead;
 use crate::numbers::number_size;
 use crate::numbers::put_number;
@@ -29,7 +29,7 @@ fn ask(kind: Kind, a: u32, b: u32) -> Question
 
 // An opening whose fields were read up to position `end` of `size` bytes.
 fn opening_in(size: usize, version: u32, h: u32, key: u32, end: usize) -> QuestionRead
-    ensures { λ r. ⌜ r ≡ openingIn size version h key end ⌝ }
+    ensures { λ r. ⌜ saidQuestion r ≡ openingIn size version h key end ⌝ }
 {
     if end < size {
         return QuestionRead::NoQuestion(Refusal::TrailingBytes);
@@ -37,13 +37,10 @@ fn opening_in(size: usize, version: u32, h: u32, key: u32, end: usize) -> Questi
     if version != 1 {
         return QuestionRead::NoQuestion(Refusal::OutOfRange);
     }
-    if h < 8 {
+    if !strings::is_between(8, h, 32) {
         return QuestionRead::NoQuestion(Refusal::OutOfRange);
     }
-    if 32 < h {
-        return QuestionRead::NoQuestion(Refusal::OutOfRange);
-    }
-    if key < 1 {
+    if !strings::is_between(1, key, 4294967295) {
         return QuestionRead::NoQuestion(Refusal::OutOfRange);
     }
     QuestionRead::Asked(Question::AskOpen(h, key))
@@ -51,7 +48,7 @@ fn opening_in(size: usize, version: u32, h: u32, key: u32, end: usize) -> Questi
 
 // The fields of an opening from position `at` on: version, h, key.
 fn read_opening(s: &[u8], at: usize) -> QuestionRead
-    ensures { λ r. ⌜ r ≡ openingAt (now (s .entry)) at ⌝ }
+    ensures { λ r. ⌜ saidQuestion r ≡ openingAt (now (s .entry)) at ⌝ }
 {
     match next_number(s, at) {
         NumberRead::NoNumber(e) => QuestionRead::NoQuestion(e),
@@ -67,7 +64,7 @@ fn read_opening(s: &[u8], at: usize) -> QuestionRead
 
 // A question for a range of n bits whose fields were read up to position `end` of `bytes` bytes.
 fn range_in(kind: Kind, bytes: usize, n: u32, start: u32, len: u32, end: usize) -> QuestionRead
-    ensures { λ r. ⌜ r ≡ rangeIn (asking kind) bytes n start len end ⌝ }
+    ensures { λ r. ⌜ saidQuestion r ≡ rangeIn (asking kind) bytes n start len end ⌝ }
 {
     if end < bytes {
         return QuestionRead::NoQuestion(Refusal::TrailingBytes);
@@ -86,7 +83,7 @@ fn range_in(kind: Kind, bytes: usize, n: u32, start: u32, len: u32, end: usize) 
 
 // The fields of a question for a range from position `at` on: start, length.
 fn read_range(kind: Kind, s: &[u8], at: usize, n: u32) -> QuestionRead
-    ensures { λ r. ⌜ r ≡ rangeAt (asking kind) (now (s .entry)) at n ⌝ }
+    ensures { λ r. ⌜ saidQuestion r ≡ rangeAt (asking kind) (now (s .entry)) at n ⌝ }
 {
     match next_number(s, at) {
         NumberRead::NoNumber(e) => QuestionRead::NoQuestion(e),
@@ -99,7 +96,7 @@ fn read_range(kind: Kind, s: &[u8], at: usize, n: u32) -> QuestionRead
 
 // The rest of a question of a known kind, from position `at` on, to a holder of n bits.
 pub fn read_fields(kind: Kind, s: &[u8], at: usize, n: u32) -> QuestionRead
-    ensures { λ r. ⌜ r ≡ fieldsAt kind (now (s .entry)) at n ⌝ }
+    ensures { λ r. ⌜ saidQuestion r ≡ fieldsAt kind (now (s .entry)) at n ⌝ }
 {
     match kind {
         Kind::Open => read_opening(s, at),
@@ -109,14 +106,15 @@ pub fn read_fields(kind: Kind, s: &[u8], at: usize, n: u32) -> QuestionRead
     }
 }
 
-// An opening: kind 0, version 1, h, key.
+// An opening: its kind, version 1, h, key. Kind and version take a byte each.
 fn write_opening(h: u32, key: u32, buf: &mut [u8]) -> WriteResult
-    ensures { λ r. ⌜ leaves r (now (buf .exit)) ≡ putFront (number 0 ++ (number 1 ++ (number h ++ number key))) (now (buf .entry)) ⌝ }
+    ensures { λ r. ⌜ saidWrite r (now (buf .exit)) ≡ putFront (questionBytes (AskOpen h key)) (now (buf .entry)) ⌝ }
 {
     if buf.len() < 2 + number_size(h) + number_size(key) {
         return WriteResult::TooShort;
     }
-    let at = put_number(buf, 0, 0);
+    let k = kind_number(Kind::Open);
+    let at = put_number(buf, 0, k);
     let next = put_number(buf, at, 1);
     let last = put_number(buf, next, h);
     let end = put_number(buf, last, key);
@@ -125,7 +123,7 @@ fn write_opening(h: u32, key: u32, buf: &mut [u8]) -> WriteResult
 
 // A question is written at the front of a lent buffer.
 pub fn write_question(q: Question, buf: &mut [u8]) -> WriteResult
-    ensures { λ r. ⌜ leaves r (now (buf .exit)) ≡ putFront (questionBytes q) (now (buf .entry)) ⌝ }
+    ensures { λ r. ⌜ saidWrite r (now (buf .exit)) ≡ putFront (questionBytes q) (now (buf .entry)) ⌝ }
 {
     match q {
         Question::AskOpen(h, key) => write_opening(h, key, buf),

@@ -1,7 +1,7 @@
 // The reader of 01, "Both ends read through one reader that holds a message and how far it has got". It only holds the two; the work
 // is done by `read_number`, on a slice and a position. `next_number` makes a reader for each number and reads through it.
 ghost use mathlib.Core.Path.{_≡_};
-ghost use Rattle.messages.specs.Numbers.{numberAt};
+ghost use Rattle.messages.specs.Numbers.{numberAt, saidNumber};
 use crate::numbers::NumberRead;
 use crate::numbers::read_number;
 
@@ -20,7 +20,7 @@ pub fn reader_at<'a>(src: &'a [u8], at: usize) -> Reader<'a>
 
 // The number at which a reader stands. Its answer has the position behind the number, where the next reader begins.
 pub fn read_next<'a>(r: Reader<'a>) -> NumberRead
-    ensures { λ n. ⌜ n ≡ numberAt (now (r .entry .src)) (r .entry .at) ⌝ }
+    ensures { λ n. ⌜ saidNumber n ≡ numberAt (now (r .entry .src)) (r .entry .at) ⌝ }
 {
     read_number(r.src, r.at)
 }
@@ -28,7 +28,7 @@ pub fn read_next<'a>(r: Reader<'a>) -> NumberRead
 // The next number of a message from position `at` on, read through a reader. Questions and answers read every number through this
 // function; its parameters are plain, so the functions above it need no proof by hand.
 pub fn next_number(s: &[u8], at: usize) -> NumberRead
-    ensures { λ r. ⌜ r ≡ numberAt (now (s .entry)) at ⌝ }
+    ensures { λ r. ⌜ saidNumber r ≡ numberAt (now (s .entry)) at ⌝ }
 {
     read_next(reader_at(s, at))
 }

@@ -7,7 +7,7 @@ ghost use lib.Seq.{sets};
 ghost use Rattle.strings.specs.Bits.{range, bytesFor, pack, Part};
 ghost use Rattle.messages.specs.Numbers.{number};
 ghost use Rattle.messages.specs.Kinds.{kindNumber};
-ghost use Rattle.messages.specs.Writing.{leaves, putFront};
+ghost use Rattle.messages.specs.Writing.{saidWrite, putFront};
 use crate::Kind;
 use crate::WriteResult;
 use crate::kinds::kind_number;
@@ -36,7 +36,7 @@ pub fn put_bits(x: &[u8], start: usize, len: usize, buf: &mut [u8], at: usize)
 
 // A message of a kind and one number.
 pub fn write_one(kind: Kind, v: u32, buf: &mut [u8]) -> WriteResult
-    ensures { λ r. ⌜ leaves r (now (buf .exit)) ≡ putFront (number (kindNumber kind) ++ number v) (now (buf .entry)) ⌝ }
+    ensures { λ r. ⌜ saidWrite r (now (buf .exit)) ≡ putFront (number (kindNumber kind) ++ number v) (now (buf .entry)) ⌝ }
 {
     let k = kind_number(kind);
     if buf.len() < number_size(k) + number_size(v) {
@@ -49,7 +49,7 @@ pub fn write_one(kind: Kind, v: u32, buf: &mut [u8]) -> WriteResult
 
 // A message of a kind and two numbers.
 pub fn write_two(kind: Kind, a: u32, b: u32, buf: &mut [u8]) -> WriteResult
-    ensures { λ r. ⌜ leaves r (now (buf .exit)) ≡ putFront (number (kindNumber kind) ++ (number a ++ number b)) (now (buf .entry)) ⌝ }
+    ensures { λ r. ⌜ saidWrite r (now (buf .exit)) ≡ putFront (number (kindNumber kind) ++ (number a ++ number b)) (now (buf .entry)) ⌝ }
 {
     let k = kind_number(kind);
     if buf.len() < number_size(k) + number_size(a) + number_size(b) {

@@ -9,15 +9,19 @@ use native.Mathlib.Decide.{decLt}
 use native.Mathlib.Omega.{arith}
 use lib.ListN.{length, getD, set, take, drop, length-drop, drop-of-length-le}
 use lib.Seq.{sets, drop-drop, drop-append-seam, drop-append-le, drop-cons, drop-at, take-at, take-add, length-take-le}
-use lib.Dec.{ltb, leb, eqb}
-use borrow.Author.Tests.{lt-ltb, le-ltb, le-leb, lt-leb, eq-eqb, ne-eqb, ltb-true, ltb-false, leb-false, eqb-false}
+use lib.Dec.{ltb, leb}
+use borrow.Author.Tests.{lt-ltb, le-ltb, le-leb, lt-leb, ltb-true, ltb-false, leb-true}
+use Rattle.strings.specs.Bits.{maxBits}
+use Rattle.strings.specs.Refusals.{refusalNumber}
+use Rattle.strings.specs.Results.{Result, refusal, value, andThen}
 use Rattle.strings.specs.laws.PackLaws.{Bytes}
 use Rattle.strings.specs.laws.Tests.{by-test}
+use Rattle.strings.specs.laws.ResultLaws.{unless-passed}
 use Rattle.strings.specs.declared.Refusal.{Refusal}
 use Rattle.strings.specs.declared.Refusal.the-variants.{Truncated, BadNumber}
 use Rattle.messages.specs.declared.numbers.NumberRead.{NumberRead}
 use Rattle.messages.specs.declared.numbers.NumberRead.the-variants.{Value, NoNumber}
-use Rattle.messages.specs.Numbers.{groups, number, nextByte, numberAt}
+use Rattle.messages.specs.Numbers.{groups, number, nextByte, numberAt, saidNumber}
 
 -- ---- a number's bytes, from the first on
 abbrev lim : ℕ → ℕ
@@ -78,7 +82,7 @@ unfolding number
 size-most v = groups-most 4 v
 
 -- starts, lengths and syndromes
-pub size-short : (v : ℕ) → v ≤ 65536 → length (number v) ≤ 3
+pub size-short : (v : ℕ) → v ≤ maxBits → length (number v) ≤ 3
 size-short v h = go (decLt v 128) (decLt v 16384)
   where
     go : Dec (v < 128) → Dec (v < 16384) → length (number v) ≤ 3
@@ -86,7 +90,6 @@ size-short v h = go (decLt v 128) (decLt v 16384)
     go (no l) (yes m) = let e = size-two v (omega arith) m in omega arith
     go (no l) (no m) = let e = size-three v (omega arith) (omega arith) in omega arith
 
--- ---- a number's bytes are bytes
 -- ---- a turn of the writer, and its end
 pub write-turn : (s u : List ℕ) (i v : ℕ) → 128 ≤ v → v < 4294967296 → sets s i (number v) ≡ u → sets (set s i (v % 128 + 128)) (i + 1) (number (v / 128)) ≡ u
 write-turn s u i v h m f = rw (add-one) (rw (number-next v h m) at f)
@@ -109,29 +112,29 @@ weight-most (suc (suc zero)) = omega arith
 weight-most (suc (suc (suc k))) = omega arith
 
 module _ (s : List ℕ) (k i w v : ℕ) where
-  pub read-cut : length s ≤ i → nextByte k s i w v ≡ NoNumber Truncated
+  pub read-cut : length s ≤ i → nextByte k s i w v ≡ refusal (refusalNumber Truncated)
   unfolding nextByte
   read-cut h = go k
     where
-      go : (k : ℕ) → nextByte k s i w v ≡ NoNumber Truncated
-      go zero = rw (le-leb (length s) i h) refl
-      go (suc k) = rw (le-leb (length s) i h) refl
+      go : (k : ℕ) → nextByte k s i w v ≡ refusal (refusalNumber Truncated)
+      go zero = rw (le-ltb i (length s) h) refl
+      go (suc k) = rw (le-ltb i (length s) h) refl
 
-  pub read-zero : i < length s → getD s i 0 ≡ 0 → nextByte k s i w v ≡ NoNumber BadNumber
+  pub read-zero : i < length s → getD s i 0 ≡ 0 → nextByte k s i w v ≡ refusal (refusalNumber BadNumber)
   unfolding nextByte
   read-zero h e = go k
     where
-      go : (k : ℕ) → nextByte k s i w v ≡ NoNumber BadNumber
-      go zero = rw (lt-leb (length s) i h, eq-eqb (getD s i 0) 0 e) refl
-      go (suc k) = rw (lt-leb (length s) i h, eq-eqb (getD s i 0) 0 e) refl
+      go : (k : ℕ) → nextByte k s i w v ≡ refusal (refusalNumber BadNumber)
+      go zero = rw (lt-ltb i (length s) h, le-ltb 0 (getD s i 0) (omega arith)) refl
+      go (suc k) = rw (lt-ltb i (length s) h, le-ltb 0 (getD s i 0) (omega arith)) refl
 
-  pub read-last : 0 < k → i < length s → (getD s i 0 ≡ 0 → ⊥) → getD s i 0 < 128 → nextByte k s i w v ≡ Value (v + w * getD s i 0) (i + 1)
+  pub read-last : 0 < k → i < length s → (getD s i 0 ≡ 0 → ⊥) → getD s i 0 < 128 → nextByte k s i w v ≡ value (v + w * getD s i 0, i + 1)
   unfolding nextByte
   read-last p h e l = go k p
     where
-      go : (k : ℕ) → 0 < k → nextByte k s i w v ≡ Value (v + w * getD s i 0) (i + 1)
+      go : (k : ℕ) → 0 < k → nextByte k s i w v ≡ value (v + w * getD s i 0, i + 1)
       go zero p = absurd (omega arith)
-      go (suc k) p = rw (lt-leb (length s) i h, ne-eqb (getD s i 0) 0 e, lt-ltb (getD s i 0) 128 l) refl
+      go (suc k) p = rw (lt-ltb i (length s) h, lt-ltb 0 (getD s i 0) (omega arith), lt-ltb (getD s i 0) 128 l) refl
 
   pub read-next : 0 < k → i < length s → (getD s i 0 ≡ 0 → ⊥) → 128 ≤ getD s i 0 → nextByte k s i w v ≡ nextByte (k - 1) s (i + 1) (w * 128) (v + w * (getD s i 0 - 128))
   unfolding nextByte
@@ -141,7 +144,7 @@ module _ (s : List ℕ) (k i w v : ℕ) where
       go zero p = absurd (omega arith)
       go (suc k) p =
           let q : suc k - 1 ≡ k = omega arith in
-          rw (lt-leb (length s) i h, ne-eqb (getD s i 0) 0 e, le-ltb (getD s i 0) 128 l, q) refl
+          rw (lt-ltb i (length s) h, lt-ltb 0 (getD s i 0) (omega arith), le-ltb (getD s i 0) 128 l, q) refl
 
 -- the value stays below the next byte's weight
 pub turn-fits : (k w v b : ℕ) → 0 < k → k ≤ 3 → w ≡ weight k → v < w → b < 128 → (w * b < 268435456) × (v + w * b < 268435456) × (v + w * b < w * 128) × (w * 128 ≡ weight (k - 1))
@@ -153,7 +156,7 @@ turn-fits (suc (suc (suc (suc k)))) w v b p q e l m = absurd (omega arith)
 
 pub read-first : (s : List ℕ) (at v : ℕ) → at < length s → 128 ≤ getD s at 0 → v ≡ getD s at 0 - 128 → nextByte 3 s (at + 1) 128 v ≡ numberAt s at
 unfolding numberAt
-read-first s at v h l e = rw (lt-leb (length s) at h, le-ltb (getD s at 0) 128 l, e) refl
+read-first s at v h l e = rw (lt-ltb at (length s) h, le-ltb (getD s at 0) 128 l, e) refl
 
 -- where no more bytes but one may follow
 pub read-end : (s : List ℕ) (k i w v : ℕ) → k ≤ 0 → w ≡ weight k → v < w → (v < 268435456) × (nextByte 0 s i 268435456 v ≡ nextByte k s i w v)
@@ -161,24 +164,36 @@ read-end s zero i w v p e l = ((rw e at l), ap (λ (x : ℕ). nextByte 0 s i x v
 read-end s (suc k) i w v p e l = absurd (omega arith)
 
 module _ (s : List ℕ) (i w v : ℕ) where
-  pub read-fifth-large : (k : ℕ) → k ≤ 0 → i < length s → (getD s i 0 ≡ 0 → ⊥) → 15 < getD s i 0 → nextByte k s i w v ≡ NoNumber BadNumber
+  pub read-fifth-large : (k : ℕ) → k ≤ 0 → i < length s → (getD s i 0 ≡ 0 → ⊥) → 15 < getD s i 0 → nextByte k s i w v ≡ refusal (refusalNumber BadNumber)
   unfolding nextByte
-  read-fifth-large zero p h e l = rw (lt-leb (length s) i h, ne-eqb (getD s i 0) 0 e, lt-ltb 15 (getD s i 0) l) refl
+  read-fifth-large zero p h e l = rw (lt-ltb i (length s) h, lt-ltb 0 (getD s i 0) (omega arith), lt-leb (getD s i 0) 15 l) refl
   read-fifth-large (suc k) p h e l = absurd (omega arith)
 
-  pub read-fifth : (k : ℕ) → k ≤ 0 → i < length s → (getD s i 0 ≡ 0 → ⊥) → getD s i 0 ≤ 15 → nextByte k s i w v ≡ Value (v + w * getD s i 0) (i + 1)
+  pub read-fifth : (k : ℕ) → k ≤ 0 → i < length s → (getD s i 0 ≡ 0 → ⊥) → getD s i 0 ≤ 15 → nextByte k s i w v ≡ value (v + w * getD s i 0, i + 1)
   unfolding nextByte
-  read-fifth zero p h e l = rw (lt-leb (length s) i h, ne-eqb (getD s i 0) 0 e, le-ltb 15 (getD s i 0) l) refl
+  read-fifth zero p h e l = rw (lt-ltb i (length s) h, lt-ltb 0 (getD s i 0) (omega arith), le-leb (getD s i 0) 15 l) refl
   read-fifth (suc k) p h e l = absurd (omega arith)
 
 -- a first byte that is the whole number
-pub read-short : (s : List ℕ) (at v : ℕ) → at < length s → getD s at 0 ≡ v → v < 128 → numberAt s at ≡ Value v (at + 1)
+pub read-short : (s : List ℕ) (at v : ℕ) → at < length s → getD s at 0 ≡ v → v < 128 → numberAt s at ≡ value (v, at + 1)
 unfolding numberAt
-read-short s at v h e l = rw (lt-leb (length s) at h, e, lt-ltb v 128 l) refl
+read-short s at v h e l = rw (lt-ltb at (length s) h, e, lt-ltb v 128 l) refl
 
-pub read-none : (s : List ℕ) (at : ℕ) → length s ≤ at → numberAt s at ≡ NoNumber Truncated
+pub read-none : (s : List ℕ) (at : ℕ) → length s ≤ at → numberAt s at ≡ refusal (refusalNumber Truncated)
 unfolding numberAt
-read-none s at h = rw (le-leb (length s) at h) refl
+read-none s at h = rw (le-ltb at (length s) h) refl
+
+-- ---- as the code meets them: r is what a number reader gave, and the number n decides what o is
+module _ {A : Type 0} {o : Result A} {n : Result (ℕ × ℕ)} {r : NumberRead} (p : saidNumber r ≡ n) (f : ℕ × ℕ → Result A) (so : o ≡ andThen n f) where
+  pub no-number : {e : Refusal} → r ≡ NoNumber e → refusal (refusalNumber e) ≡ o
+  no-number q = sym (so ∙ rw (← p, q) refl)
+
+  pub the-number : {v b : ℕ} → r ≡ Value v b → o ≡ f (v, b)
+  the-number q = so ∙ rw (← p, q) refl
+
+-- a number that was read stands in the message
+pub read-there : {n : Result (ℕ × ℕ)} {r : NumberRead} {v b : ℕ} → saidNumber r ≡ n → r ≡ Value v b → n ≡ value (v, b)
+read-there p q = sym p ∙ ap saidNumber q
 
 -- ---- what was written is read
 head-is : (s : List ℕ) (i x : ℕ) (r : List ℕ) → drop i s ≡ x ∷ r → (i < length s) × (getD s i 0 ≡ x) × (drop (i + 1) s ≡ r)
@@ -208,22 +223,22 @@ weighs a w x y =
     let g : w * 128 * y ≡ w * (128 * y) = mul-assoc w 128 y in
     omega arith
 
-rest-reads : (k : ℕ) (s rest : List ℕ) (i w a v : ℕ) → drop i s ≡ groups k v ++ rest → 0 < v → v < top k → nextByte k s i w a ≡ Value (a + w * v) (i + length (groups k v))
+rest-reads : (k : ℕ) (s rest : List ℕ) (i w a v : ℕ) → drop i s ≡ groups k v ++ rest → 0 < v → v < top k → nextByte k s i w a ≡ value (a + w * v, i + length (groups k v))
 unfolding groups
 rest-reads zero s rest i w a v e p q =
     let h = head-is s i v rest e in
     let g = h .1 in
-    read-fifth s i w a 0 (omega arith) (h .0) (λ z. omega arith) (omega arith) ∙ ap (λ (n : ℕ). Value (a + w * n) (i + 1)) g
+    read-fifth s i w a 0 (omega arith) (h .0) (λ z. omega arith) (omega arith) ∙ ap (λ (n : ℕ). value (a + w * n, i + 1)) g
 rest-reads (suc k) s rest i w a v e p q = go (decLt v 128) (λ j w a e′ p′ q′. rest-reads k s rest j w a (v / 128) e′ p′ q′)
   where
     go : Dec (v < 128)
-        → ((j w a : ℕ) → drop j s ≡ groups k (v / 128) ++ rest → 0 < v / 128 → v / 128 < top k → nextByte k s j w a ≡ Value (a + w * (v / 128)) (j + length (groups k (v / 128))))
-        → nextByte (suc k) s i w a ≡ Value (a + w * v) (i + length (cond (ltb v 128) (v ∷ []) ((v % 128 + 128) ∷ groups k (v / 128))))
+        → ((j w a : ℕ) → drop j s ≡ groups k (v / 128) ++ rest → 0 < v / 128 → v / 128 < top k → nextByte k s j w a ≡ value (a + w * (v / 128), j + length (groups k (v / 128))))
+        → nextByte (suc k) s i w a ≡ value (a + w * v, i + length (cond (ltb v 128) (v ∷ []) ((v % 128 + 128) ∷ groups k (v / 128))))
     go (yes l) rec =
         let e′ : drop i s ≡ v ∷ rest = rw (lt-ltb v 128 l) at e in
         let h = head-is s i v rest e′ in
         let g = h .1 in
-        rw (lt-ltb v 128 l) (read-last s (suc k) i w a (omega arith) (h .0) (λ z. omega arith) (omega arith) ∙ ap (λ (n : ℕ). Value (a + w * n) (i + 1)) g)
+        rw (lt-ltb v 128 l) (read-last s (suc k) i w a (omega arith) (h .0) (λ z. omega arith) (omega arith) ∙ ap (λ (n : ℕ). value (a + w * n, i + 1)) g)
     go (no l) rec =
         let t : 128 ≤ v = omega arith in
         let e′ : drop i s ≡ (v % 128 + 128) ∷ (groups k (v / 128) ++ rest) = rw (le-ltb v 128 t) at e in
@@ -237,14 +252,14 @@ rest-reads (suc k) s rest i w a v e p q = go (decLt v 128) (λ j w a e′ p′ q
         (read-next s (suc k) i w a (omega arith) (h .0) (λ z. omega arith) (omega arith)
         ∙ ap₂ (λ (x y : ℕ). nextByte x s (i + 1) (w * 128) (a + w * y)) m n
         ∙ rec (i + 1) (w * 128) (a + w * (v % 128)) (h .2) (omega arith) (omega arith)
-        ∙ ap₂ (λ (x y : ℕ). Value x y) (weighs a w (v % 128) (v / 128) ∙ ap (λ (n : ℕ). a + w * n) x) j)
+        ∙ ap₂ (λ (x y : ℕ). value (x, y)) (weighs a w (v % 128) (v / 128) ∙ ap (λ (n : ℕ). a + w * n) x) j)
 
 -- a number that stands at a position is read there, whatever follows
-pub number-reads : (s rest : List ℕ) (at v : ℕ) → v < 4294967296 → drop at s ≡ number v ++ rest → numberAt s at ≡ Value v (at + length (number v))
+pub number-reads : (s rest : List ℕ) (at v : ℕ) → v < 4294967296 → drop at s ≡ number v ++ rest → numberAt s at ≡ value (v, at + length (number v))
 unfolding number groups
 number-reads s rest at v m e = go (decLt v 128)
   where
-    go : Dec (v < 128) → numberAt s at ≡ Value v (at + length (groups 4 v))
+    go : Dec (v < 128) → numberAt s at ≡ value (v, at + length (groups 4 v))
     go (yes l) =
         let e′ : drop at s ≡ v ∷ rest = rw (lt-ltb v 128 l) at e in
         let h = head-is s at v rest e′ in
@@ -259,25 +274,25 @@ number-reads s rest at v m e = go (decLt v 128)
         rw (le-ltb v 128 t)
         (sym (read-first s at (v % 128) (h .0) (omega arith) (omega arith))
         ∙ rest-reads 3 s rest (at + 1) 128 (v % 128) (v / 128) (h .2) (omega arith) (omega arith)
-        ∙ ap₂ (λ (a b : ℕ). Value a b) x j)
+        ∙ ap₂ (λ (a b : ℕ). value (a, b)) x j)
 
 -- the last number of a message
-pub number-reads-last : (s : List ℕ) (at v : ℕ) → v < 4294967296 → drop at s ≡ number v → numberAt s at ≡ Value v (at + length (number v))
+pub number-reads-last : (s : List ℕ) (at v : ℕ) → v < 4294967296 → drop at s ≡ number v → numberAt s at ≡ value (v, at + length (number v))
 number-reads-last s at v m e = number-reads s [] at v m (e ∙ sym (append-nil (number v)))
 
 -- ---- nothing else is read to the same number
-no-value : {e : Refusal} {x b : ℕ} → NoNumber e ≡ Value x b → ⊥
-no-value {e} {x} {b} q = let z : _≡_ {A = ℕ} 0 1 = cc in omega arith
+pub value-is : {A : Type 0} {a b : A} → value a ≡ value b → a ≡ b
+value-is {A} {a} {b} e = cc
 
-value-is : {v b x c : ℕ} → Value v b ≡ Value x c → (v ≡ x) × (b ≡ c)
-value-is {v} {b} {x} {c} q = ((cc), (cc))
+number-is : {v b x c : ℕ} → _≡_ {A = Result (ℕ × ℕ)} (value (v, b)) (value (x, c)) → (v ≡ x) × (b ≡ c)
+number-is e = let f = value-is e in (ap (λ (p : ℕ × ℕ). p .0) f, ap (λ (p : ℕ × ℕ). p .1) f)
 
 -- the bytes from i on are the k + 1 groups at most of a number that raised the value from a to x, and end at b
 record Raised (k : ℕ) (s : List ℕ) (i w a x b : ℕ) : Type 0 where
   v : ℕ
   some : 0 < v
   small : v < top k
-  value : x ≡ a + w * v
+  sums : x ≡ a + w * v
   ends : b ≡ i + length (groups k v)
   inside : b ≤ length s
   stands : drop i s ≡ groups k v ++ drop b s
@@ -298,17 +313,17 @@ top-some zero = omega arith
 top-some (suc k) = let h = top-some k in omega arith
 
 module _ (k : ℕ) (s : List ℕ) (i w a x b : ℕ) (h : i < length s) where
-  last-group : (getD s i 0 ≡ 0 → ⊥) → getD s i 0 < 128 → Value (a + w * getD s i 0) (i + 1) ≡ Value x b → Raised (suc k) s i w a x b
+  last-group : (getD s i 0 ≡ 0 → ⊥) → getD s i 0 < 128 → _≡_ {A = Result (ℕ × ℕ)} (value (a + w * getD s i 0, i + 1)) (value (x, b)) → Raised (suc k) s i w a x b
   unfolding groups
   last-group n l q =
-      let o = value-is q in
+      let o = number-is q in
       let p = o .1 in
       let t = top-some k in
       record {
         v = getD s i 0;
         some = omega arith;
         small = omega arith;
-        value = sym (o .0);
+        sums = sym (o .0);
         ends = rw (lt-ltb (getD s i 0) 128 l) (sym p);
         inside = omega arith;
         stands = rw (lt-ltb (getD s i 0) 128 l) (last-stands s i (getD s i 0) h refl ∙ ap (λ (j : ℕ). getD s i 0 ∷ drop j s) p);
@@ -324,38 +339,41 @@ module _ (k : ℕ) (s : List ℕ) (i w a x b : ℕ) (h : i < length s) where
         v = v;
         some = omega arith;
         small = (let q = r .small in omega arith);
-        value = r .value ∙ weighs a w (getD s i 0 - 128) u;
+        sums = r .sums ∙ weighs a w (getD s i 0 - 128) u;
         ends = rw f (let q = r .ends in omega arith);
         inside = r .inside;
         stands = rw f (last-stands s i (getD s i 0) h refl ∙ ap (λ (t : List ℕ). getD s i 0 ∷ t) (r .stands));
       }
 
 module _ (s : List ℕ) (bytes : Bytes s) where
-  raised : (k i w a x b : ℕ) → nextByte k s i w a ≡ Value x b → Raised k s i w a x b
+  raised : (k i w a x b : ℕ) → nextByte k s i w a ≡ value (x, b) → Raised k s i w a x b
   unfolding nextByte groups
-  raised zero i w a x b =
-      by-test (λ (r : NumberRead). r ≡ Value x b → Raised zero s i w a x b) (leb (length s) i) (λ e q. absurd (no-value q)) (λ e.
-      by-test (λ (r : NumberRead). r ≡ Value x b → Raised zero s i w a x b) (eqb (getD s i 0) 0) (λ f q. absurd (no-value q)) (λ f.
-      by-test (λ (r : NumberRead). r ≡ Value x b → Raised zero s i w a x b) (ltb 15 (getD s i 0)) (λ g q. absurd (no-value q)) (λ g q.
-      let l = leb-false (length s) i e in
-      let n = eqb-false (getD s i 0) 0 f in
-      let m = ltb-false 15 (getD s i 0) g in
-      let o = value-is q in
+  raised zero i w a x b is =
+      let (e, is₁) = unless-passed (ltb i (length s)) Truncated _ (x, b) is in
+      let (f, is₂) = unless-passed (ltb 0 (getD s i 0)) BadNumber _ (x, b) is₁ in
+      let (g, is₃) = unless-passed (leb (getD s i 0) 15) BadNumber _ (x, b) is₂ in
+      let l = ltb-true i (length s) e in
+      let n = ltb-true 0 (getD s i 0) f in
+      let m = leb-true (getD s i 0) 15 g in
+      let o = number-is is₃ in
       record {
         v = getD s i 0;
-        some = omega arith;
+        some = n;
         small = omega arith;
-        value = sym (o .0);
+        sums = sym (o .0);
         ends = sym (o .1);
         inside = (let u = o .1 in omega arith);
         stands = last-stands s i (getD s i 0) l refl ∙ ap (λ (j : ℕ). getD s i 0 ∷ drop j s) (o .1);
-      })))
-  raised (suc k) i w a x b =
-      by-test (λ (r : NumberRead). r ≡ Value x b → Raised (suc k) s i w a x b) (leb (length s) i) (λ e q. absurd (no-value q)) (λ e.
-      by-test (λ (r : NumberRead). r ≡ Value x b → Raised (suc k) s i w a x b) (eqb (getD s i 0) 0) (λ f q. absurd (no-value q)) (λ f.
-      by-test (λ (r : NumberRead). r ≡ Value x b → Raised (suc k) s i w a x b) (ltb (getD s i 0) 128)
-      (λ g q. last-group k s i w a x b (leb-false (length s) i e) (eqb-false (getD s i 0) 0 f) (ltb-true (getD s i 0) 128 g) q)
-      (λ g q. next-group k s i w a x b (leb-false (length s) i e) (ltb-false (getD s i 0) 128 g) (bytes i) (raised k (i + 1) (w * 128) (a + w * (getD s i 0 - 128)) x b q))))
+      }
+  raised (suc k) i w a x b is =
+      let (e, is₁) = unless-passed (ltb i (length s)) Truncated _ (x, b) is in
+      let (f, is₂) = unless-passed (ltb 0 (getD s i 0)) BadNumber _ (x, b) is₁ in
+      let l = ltb-true i (length s) e in
+      let n = ltb-true 0 (getD s i 0) f in
+      by-test (λ (r : Result (ℕ × ℕ)). r ≡ value (x, b) → Raised (suc k) s i w a x b) (ltb (getD s i 0) 128)
+      (λ g q. last-group k s i w a x b l (λ z. omega arith) (ltb-true (getD s i 0) 128 g) q)
+      (λ g q. next-group k s i w a x b l (ltb-false (getD s i 0) 128 g) (bytes i) (raised k (i + 1) (w * 128) (a + w * (getD s i 0 - 128)) x b q))
+      is₂
 
 -- what a reader that found v at a position, up to b, had before it
 pub record Stands (s : List ℕ) (at v b : ℕ) : Type 0 where
@@ -367,7 +385,7 @@ pub record Stands (s : List ℕ) (at v b : ℕ) : Type 0 where
   -- the bytes read are the number's own: nothing else reads to v
   pub form : take (b - at) (drop at s) ≡ number v
   -- and the bytes behind them were not looked at
-  pub alone : (t : List ℕ) → numberAt (take b s ++ t) at ≡ Value v b
+  pub alone : (t : List ℕ) → numberAt (take b s ++ t) at ≡ value (v, b)
 
 drop-take : (s : List ℕ) (at b : ℕ) → at ≤ b → b ≤ length s → drop at (take b s) ≡ take (b - at) (drop at s)
 drop-take s at b h k =
@@ -385,13 +403,13 @@ stands-so s at v b m e h d =
       inside = h;
       stands = d;
       form = f;
-      alone = λ t. number-reads (take b s ++ t) t at v m (drop-append-le at (take b s) t (let k = length-take-le b s h in omega arith) ∙ ap (λ (l : List ℕ). l ++ t) (drop-take s at b (omega arith) h ∙ f)) ∙ ap (λ (n : ℕ). Value v n) (sym e);
+      alone = λ t. number-reads (take b s ++ t) t at v m (drop-append-le at (take b s) t (let k = length-take-le b s h in omega arith) ∙ ap (λ (l : List ℕ). l ++ t) (drop-take s at b (omega arith) h ∙ f)) ∙ ap (λ (n : ℕ). value (v, n)) (sym e);
     }
 
 module _ (s : List ℕ) (at v b : ℕ) (h : at < length s) where
-  short-stands : getD s at 0 < 128 → Value (getD s at 0) (at + 1) ≡ Value v b → Stands s at v b
+  short-stands : getD s at 0 < 128 → _≡_ {A = Result (ℕ × ℕ)} (value (getD s at 0, at + 1)) (value (v, b)) → Stands s at v b
   short-stands l q =
-      let o = value-is q in
+      let o = number-is q in
       let x = o .0 in
       let y = o .1 in
       let z = size-last v (omega arith) in
@@ -404,59 +422,67 @@ module _ (s : List ℕ) (at v b : ℕ) (h : at < length s) where
       let u = r .v in
       let p = r .some in
       let k = r .small in
-      let x = r .value in
+      let x = r .sums in
       let f : number v ≡ getD s at 0 ∷ groups 3 u = ap number x ∙ groups-join 3 (getD s at 0) u l m p in
       let g : length (number v) ≡ suc (length (groups 3 u)) = ap length f in
       stands-so s at v b (omega arith) (let y = r .ends in omega arith) (r .inside)
       (last-stands s at (getD s at 0) h refl ∙ ap (λ (t : List ℕ). getD s at 0 ∷ t) (r .stands) ∙ ap (λ (t : List ℕ). t ++ drop b s) (sym f))
 
-pub number-form : (s : List ℕ) (at v b : ℕ) → Bytes s → numberAt s at ≡ Value v b → Stands s at v b
+pub number-form : (s : List ℕ) (at v b : ℕ) → Bytes s → numberAt s at ≡ value (v, b) → Stands s at v b
 unfolding numberAt
-number-form s at v b bytes =
-    by-test (λ (r : NumberRead). r ≡ Value v b → Stands s at v b) (leb (length s) at) (λ e q. absurd (no-value q)) (λ e.
-    by-test (λ (r : NumberRead). r ≡ Value v b → Stands s at v b) (ltb (getD s at 0) 128)
-    (λ g q. short-stands s at v b (leb-false (length s) at e) (ltb-true (getD s at 0) 128 g) q)
-    (λ g q. long-stands s at v b (leb-false (length s) at e) (ltb-false (getD s at 0) 128 g) (bytes at) (raised s bytes 3 (at + 1) 128 (getD s at 0 - 128) v b q)))
+number-form s at v b bytes is =
+    let (e, is₁) = unless-passed (ltb at (length s)) Truncated _ (v, b) is in
+    let l = ltb-true at (length s) e in
+    by-test (λ (r : Result (ℕ × ℕ)). r ≡ value (v, b) → Stands s at v b) (ltb (getD s at 0) 128)
+    (λ g q. short-stands s at v b l (ltb-true (getD s at 0) 128 g) q)
+    (λ g q. long-stands s at v b l (ltb-false (getD s at 0) 128 g) (bytes at) (raised s bytes 3 (at + 1) 128 (getD s at 0 - 128) v b q))
+    is₁
 
 -- the last number of a message
-pub number-form-last : (s : List ℕ) (at v b : ℕ) → Bytes s → numberAt s at ≡ Value v b → length s ≤ b → drop at s ≡ number v
+pub number-form-last : (s : List ℕ) (at v b : ℕ) → Bytes s → numberAt s at ≡ value (v, b) → length s ≤ b → drop at s ≡ number v
 number-form-last s at v b bytes e h = number-form s at v b bytes e .stands ∙ ap (λ (l : List ℕ). number v ++ l) (drop-of-length-le s h) ∙ append-nil (number v)
 
 -- a number ends by the end of the message, whatever its elements
-next-inside : (k : ℕ) (s : List ℕ) (i w a x b : ℕ) → nextByte k s i w a ≡ Value x b → (i < b) × (b ≤ length s)
+next-inside : (k : ℕ) (s : List ℕ) (i w a x b : ℕ) → nextByte k s i w a ≡ value (x, b) → (i < b) × (b ≤ length s)
 unfolding nextByte
-next-inside zero s i w a x b =
-    by-test (λ (r : NumberRead). r ≡ Value x b → (i < b) × (b ≤ length s)) (leb (length s) i) (λ e q. absurd (no-value q)) (λ e.
-    by-test (λ (r : NumberRead). r ≡ Value x b → (i < b) × (b ≤ length s)) (eqb (getD s i 0) 0) (λ f q. absurd (no-value q)) (λ f.
-    by-test (λ (r : NumberRead). r ≡ Value x b → (i < b) × (b ≤ length s)) (ltb 15 (getD s i 0)) (λ g q. absurd (no-value q)) (λ g q.
-    let l = leb-false (length s) i e in let o = value-is q .1 in (omega arith, omega arith))))
-next-inside (suc k) s i w a x b =
-    by-test (λ (r : NumberRead). r ≡ Value x b → (i < b) × (b ≤ length s)) (leb (length s) i) (λ e q. absurd (no-value q)) (λ e.
-    by-test (λ (r : NumberRead). r ≡ Value x b → (i < b) × (b ≤ length s)) (eqb (getD s i 0) 0) (λ f q. absurd (no-value q)) (λ f.
-    by-test (λ (r : NumberRead). r ≡ Value x b → (i < b) × (b ≤ length s)) (ltb (getD s i 0) 128)
-    (λ g q. let l = leb-false (length s) i e in let o = value-is q .1 in (omega arith, omega arith))
-    (λ g q. let h = next-inside k s (i + 1) (w * 128) (a + w * (getD s i 0 - 128)) x b q in (omega arith, h .1))))
+next-inside zero s i w a x b is =
+    let (e, is₁) = unless-passed (ltb i (length s)) Truncated _ (x, b) is in
+    let (f, is₂) = unless-passed (ltb 0 (getD s i 0)) BadNumber _ (x, b) is₁ in
+    let (g, is₃) = unless-passed (leb (getD s i 0) 15) BadNumber _ (x, b) is₂ in
+    let l = ltb-true i (length s) e in
+    let o = number-is is₃ .1 in
+    (omega arith, omega arith)
+next-inside (suc k) s i w a x b is =
+    let (e, is₁) = unless-passed (ltb i (length s)) Truncated _ (x, b) is in
+    let (f, is₂) = unless-passed (ltb 0 (getD s i 0)) BadNumber _ (x, b) is₁ in
+    let l = ltb-true i (length s) e in
+    by-test (λ (r : Result (ℕ × ℕ)). r ≡ value (x, b) → (i < b) × (b ≤ length s)) (ltb (getD s i 0) 128)
+    (λ g q. let o = number-is q .1 in (omega arith, omega arith))
+    (λ g q. let h = next-inside k s (i + 1) (w * 128) (a + w * (getD s i 0 - 128)) x b q in (omega arith, h .1))
+    is₂
 
-pub number-inside : (s : List ℕ) (at v b : ℕ) → numberAt s at ≡ Value v b → (at < b) × (b ≤ length s)
+pub number-inside : (s : List ℕ) (at v b : ℕ) → numberAt s at ≡ value (v, b) → (at < b) × (b ≤ length s)
 unfolding numberAt
-number-inside s at v b =
-    by-test (λ (r : NumberRead). r ≡ Value v b → (at < b) × (b ≤ length s)) (leb (length s) at) (λ e q. absurd (no-value q)) (λ e.
-    by-test (λ (r : NumberRead). r ≡ Value v b → (at < b) × (b ≤ length s)) (ltb (getD s at 0) 128)
-    (λ g q. let l = leb-false (length s) at e in let o = value-is q .1 in (omega arith, omega arith))
-    (λ g q. let h = next-inside 3 s (at + 1) 128 (getD s at 0 - 128) v b q in (omega arith, h .1)))
+number-inside s at v b is =
+    let (e, is₁) = unless-passed (ltb at (length s)) Truncated _ (v, b) is in
+    let l = ltb-true at (length s) e in
+    by-test (λ (r : Result (ℕ × ℕ)). r ≡ value (v, b) → (at < b) × (b ≤ length s)) (ltb (getD s at 0) 128)
+    (λ g q. let o = number-is q .1 in (omega arith, omega arith))
+    (λ g q. let h = next-inside 3 s (at + 1) 128 (getD s at 0 - 128) v b q in (omega arith, h .1))
+    is₁
 
 -- ---- where the message ends inside the number
 drop-end : (s : List ℕ) (i : ℕ) → drop i s ≡ [] → length s ≤ i
 drop-end s i d = let e = length-drop i s in let f : length (drop i s) ≡ 0 = ap length d in omega arith
 
-rest-cut : (k : ℕ) (s : List ℕ) (i w a v j : ℕ) → drop i s ≡ take j (groups k v) → j < length (groups k v) → nextByte k s i w a ≡ NoNumber Truncated
+rest-cut : (k : ℕ) (s : List ℕ) (i w a v j : ℕ) → drop i s ≡ take j (groups k v) → j < length (groups k v) → nextByte k s i w a ≡ refusal (refusalNumber Truncated)
 unfolding groups
 rest-cut k s i w a v zero d h = read-cut s k i w a (drop-end s i d)
 rest-cut zero s i w a v (suc j) d h = absurd (omega arith)
 rest-cut (suc k) s i w a v (suc j) d h = go (decLt v 128) (rest-cut k s (i + 1) (w * 128) (a + w * (v % 128)) (v / 128) j)
   where
-    go : Dec (v < 128) → (drop (i + 1) s ≡ take j (groups k (v / 128)) → j < length (groups k (v / 128)) → nextByte k s (i + 1) (w * 128) (a + w * (v % 128)) ≡ NoNumber Truncated)
-        → nextByte (suc k) s i w a ≡ NoNumber Truncated
+    go : Dec (v < 128) → (drop (i + 1) s ≡ take j (groups k (v / 128)) → j < length (groups k (v / 128)) → nextByte k s (i + 1) (w * 128) (a + w * (v % 128)) ≡ refusal (refusalNumber Truncated))
+        → nextByte (suc k) s i w a ≡ refusal (refusalNumber Truncated)
     go (yes l) rec = let h′ : suc j < 1 = rw (lt-ltb v 128 l) at h in absurd (omega arith)
     go (no l) rec =
         let t : 128 ≤ v = omega arith in
@@ -471,12 +497,12 @@ rest-cut (suc k) s i w a v (suc j) d h = go (decLt v 128) (rest-cut k s (i + 1) 
         ∙ rec (f .2) (omega arith)
 
 -- the first j bytes of a number, fewer than all, and then the end: 4
-pub number-cut : (s : List ℕ) (at v j : ℕ) → drop at s ≡ take j (number v) → j < length (number v) → numberAt s at ≡ NoNumber Truncated
+pub number-cut : (s : List ℕ) (at v j : ℕ) → drop at s ≡ take j (number v) → j < length (number v) → numberAt s at ≡ refusal (refusalNumber Truncated)
 unfolding number groups
 number-cut s at v zero d h = read-none s at (drop-end s at d)
 number-cut s at v (suc j) d h = go (decLt v 128)
   where
-    go : Dec (v < 128) → numberAt s at ≡ NoNumber Truncated
+    go : Dec (v < 128) → numberAt s at ≡ refusal (refusalNumber Truncated)
     go (yes l) = let h′ : suc j < 1 = rw (lt-ltb v 128 l) at h in absurd (omega arith)
     go (no l) =
         let t : 128 ≤ v = omega arith in

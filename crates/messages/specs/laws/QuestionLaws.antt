@@ -1,32 +1,28 @@
 -- Laws of questions: lengths, reading what was written, and that nothing else is read to a question.
 use mathlib.Core.Path.{_≡_, refl, sym, ap, ap₂, _∙_}
-use mathlib.Core.Bool.{Bool, true, false, not}
 use mathlib.Core.List.{List, [], _++_}
 use Prim.Native.Nat.{ℕ, _+_, _≤_, _<_}
 use native.Mathlib.Omega.{arith}
 use lib.ListN.{length, drop, length-append}
 use lib.Seq.{drop-at}
-use lib.Dec.{leb, ltb, eqb}
-use borrow.Author.Tests.{le-ltb, ltb-false, le-leb, leb-true, eqb-true, not-false}
+use lib.Dec.{leb, eqb}
+use borrow.Author.Tests.{le-leb, leb-true, eqb-true}
+use Rattle.strings.specs.Bits.{maxBits}
 use Rattle.strings.specs.SettingLimits.{hashLimits, keyLimits}
+use Rattle.strings.specs.Results.{value}
 use Rattle.strings.specs.laws.Tests.{and-left, and-right}
 use Rattle.strings.specs.laws.PackLaws.{Bytes}
-use Rattle.strings.specs.declared.Refusal.{Refusal}
+use Rattle.strings.specs.laws.ResultLaws.{unless-passed, then-passed}
+use Rattle.strings.specs.declared.Refusal.the-variants.{TrailingBytes, OutOfRange}
 use Rattle.messages.specs.declared.Kind.{Kind}
 use Rattle.messages.specs.declared.Kind.the-variants.{Open, Hash, Syndrome, Bits}
-use Rattle.messages.specs.declared.numbers.NumberRead.{NumberRead}
-use Rattle.messages.specs.declared.numbers.NumberRead.the-variants.{Value, NoNumber}
-use Rattle.messages.specs.declared.KindRead.{KindRead}
-use Rattle.messages.specs.declared.KindRead.the-variants.{Known, NoKind}
 use Rattle.messages.specs.declared.Question.{Question}
 use Rattle.messages.specs.declared.Question.the-variants.{AskOpen, AskHash, AskSyndrome, AskBits}
-use Rattle.messages.specs.declared.QuestionRead.{QuestionRead}
-use Rattle.messages.specs.declared.QuestionRead.the-variants.{Asked, NoQuestion}
 use Rattle.messages.specs.Numbers.{number, numberAt}
-use Rattle.messages.specs.laws.NumberLaws.{number-reads, number-reads-last, number-form, number-form-last, drop-past, ends-there, size-last, size-some, size-most, size-short}
+use Rattle.messages.specs.laws.NumberLaws.{number-reads, number-reads-last, number-form, number-form-last, drop-past, ends-there, size-last, size-some, size-most, size-short, value-is}
 use Rattle.messages.specs.Kinds.{kindNumber, kindAt}
 use Rattle.messages.specs.laws.KindLaws.{kind-size, kind-reads, kind-form}
-use Rattle.messages.specs.Questions.{questionKind, questionBytes, thenAsk, noQuestionIf, openingAt, rangeAt, fieldsAt, thenFields, readQuestion}
+use Rattle.messages.specs.Questions.{questionKind, questionBytes, openingAt, rangeAt, fieldsAt, readQuestion}
 
 -- ---- the limits of 01: h 8 to 32, key 1 to 2^32 - 1; a range of 1 bit or more that ends by n
 pub record OpeningWithin (h key : ℕ) : Type 0 where
@@ -79,7 +75,7 @@ question-length q =
 pub question-some : (q : Question) → 0 < length (questionBytes q)
 question-some q = let e = question-length q in omega arith
 
-range-size : (n start len : ℕ) → n ≤ 65536 → RangeWithin n start len → (length (number start ++ number len) ≤ 6) × (2 ≤ length (number start ++ number len))
+range-size : (n start len : ℕ) → n ≤ maxBits → RangeWithin n start len → (length (number start ++ number len) ≤ 6) × (2 ≤ length (number start ++ number len))
 range-size n start len m r =
     let x = r .ends in
     let a = size-short start (omega arith) in
@@ -89,7 +85,7 @@ range-size n start len m r =
     let e = length-append (number start) (number len) in
     (omega arith, omega arith)
 
-field-size : (n : ℕ) (q : Question) → n ≤ 65536 → InRange n q → (length (fieldBytes q) ≤ 7) × (2 ≤ length (fieldBytes q))
+field-size : (n : ℕ) (q : Question) → n ≤ maxBits → InRange n q → (length (fieldBytes q) ≤ 7) × (2 ≤ length (fieldBytes q))
 field-size n (AskOpen h key) m r =
     let x = r .within .h-most in
     let a = size-last 1 (omega arith) in
@@ -102,20 +98,11 @@ field-size n (AskHash start len) m r = let h = range-size n start len m (r .with
 field-size n (AskSyndrome start len) m r = let h = range-size n start len m (r .within) in (omega arith, h .1)
 field-size n (AskBits start len) m r = let h = range-size n start len m (r .within) in (omega arith, h .1)
 
-pub question-size : (n : ℕ) (q : Question) → n ≤ 65536 → InRange n q → length (questionBytes q) ≤ 8
+pub question-size : (n : ℕ) (q : Question) → n ≤ maxBits → InRange n q → length (questionBytes q) ≤ 8
 question-size n q m r = let h = field-size n q m r in let e = question-length q in omega arith
 
--- ---- as the code meets them: r is what a number reader gave
--- the question o where the number n decides what it is
-module _ {o : QuestionRead} {r n : NumberRead} (p : r ≡ n) (f : ℕ → ℕ → QuestionRead) (so : o ≡ thenAsk n f) where
-  pub ask-no-number : {e : Refusal} → r ≡ NoNumber e → NoQuestion e ≡ o
-  ask-no-number q = sym (so ∙ rw (← p, q) refl)
-
-  pub ask-number : {v b : ℕ} → r ≡ Value v b → o ≡ f v b
-  ask-number q = so ∙ rw (← p, q) refl
-
 -- ---- what was written is read, wherever the fields stand
-pub opening-reads : (s : List ℕ) (at h key : ℕ) → OpeningWithin h key → key < 4294967296 → drop at s ≡ number 1 ++ (number h ++ number key) → openingAt s at ≡ Asked (AskOpen h key)
+pub opening-reads : (s : List ℕ) (at h key : ℕ) → OpeningWithin h key → key < 4294967296 → drop at s ≡ number 1 ++ (number h ++ number key) → openingAt s at ≡ value (AskOpen h key)
 unfolding openingAt
 opening-reads s at h key w m d =
     let x = w .h-most in
@@ -131,14 +118,14 @@ opening-reads s at h key w m d =
       number-reads s (number h ++ number key) at 1 (omega arith) d,
       number-reads s (number key) b h (omega arith) d₁,
       number-reads-last s c key m d₂,
-      le-ltb (c + length (number key)) (length s) (omega arith),
+      le-leb (length s) (c + length (number key)) (omega arith),
       le-leb 8 h (w .h-least),
       le-leb h 32 (w .h-most),
       le-leb 1 key (w .key-least),
       le-leb key 4294967295 (omega arith),
     ) refl
 
-pub range-reads : (ask : ℕ → ℕ → Question) (s : List ℕ) (at n start len : ℕ) → n ≤ 65536 → RangeWithin n start len → drop at s ≡ number start ++ number len → rangeAt ask s at n ≡ Asked (ask start len)
+pub range-reads : (ask : ℕ → ℕ → Question) (s : List ℕ) (at n start len : ℕ) → n ≤ maxBits → RangeWithin n start len → drop at s ≡ number start ++ number len → rangeAt ask s at n ≡ value (ask start len)
 unfolding rangeAt
 range-reads ask s at n start len m w d =
     let x = w .ends in
@@ -150,46 +137,35 @@ range-reads ask s at n start len m w d =
     rw (
       number-reads s (number len) at start (omega arith) d,
       number-reads-last s b len (omega arith) d₁,
-      le-ltb (b + length (number len)) (length s) (omega arith),
-      le-ltb len 1 (w .some),
-      le-ltb n (start + len) x,
+      le-leb (length s) (b + length (number len)) (omega arith),
+      le-leb 1 len (w .some),
+      le-leb (start + len) n x,
     ) refl
 
-pub fields-read : (q : Question) (s : List ℕ) (at n : ℕ) → n ≤ 65536 → InRange n q → drop at s ≡ fieldBytes q → fieldsAt (questionKind q) s at n ≡ Asked q
+pub fields-read : (q : Question) (s : List ℕ) (at n : ℕ) → n ≤ maxBits → InRange n q → drop at s ≡ fieldBytes q → fieldsAt (questionKind q) s at n ≡ value q
 unfolding fieldsAt
 fields-read (AskOpen h key) s at n m r d = opening-reads s at h key (r .within) (r .key-most) d
 fields-read (AskHash start len) s at n m r d = range-reads AskHash s at n start len m (r .within) d
 fields-read (AskSyndrome start len) s at n m r d = range-reads AskSyndrome s at n start len m (r .within) d
 fields-read (AskBits start len) s at n m r d = range-reads AskBits s at n start len m (r .within) d
 
-pub question-kind-reads : (q : Question) → kindAt (questionBytes q) ≡ Known (questionKind q) 1
+pub question-kind-reads : (q : Question) → kindAt (questionBytes q) ≡ value (questionKind q, 1)
 question-kind-reads q = ap kindAt (question-parts q) ∙ kind-reads (questionKind q) (fieldBytes q)
 
-pub question-fields-read : (q : Question) (n : ℕ) → n ≤ 65536 → InRange n q → fieldsAt (questionKind q) (questionBytes q) 1 n ≡ Asked q
+pub question-fields-read : (q : Question) (n : ℕ) → n ≤ maxBits → InRange n q → fieldsAt (questionKind q) (questionBytes q) 1 n ≡ value q
 question-fields-read q n m r =
     let k = number (kindNumber (questionKind q)) in
     fields-read q (questionBytes q) 1 n m r (ap (drop 1) (question-parts q) ∙ drop-at k (fieldBytes q) 1 (kind-size (questionKind q)))
 
 -- once the kind is known the rest is read as its fields
-pub question-known : (s : List ℕ) (n : ℕ) {k : Kind} {at : ℕ} → kindAt s ≡ Known k at → readQuestion s n ≡ fieldsAt k s at n
+pub question-known : (s : List ℕ) (n : ℕ) {k : Kind} {at : ℕ} → kindAt s ≡ value (k, at) → readQuestion s n ≡ fieldsAt k s at n
 unfolding readQuestion
 question-known s n e = rw e refl
 
-pub question-reads : (q : Question) (n : ℕ) → n ≤ 65536 → InRange n q → readQuestion (questionBytes q) n ≡ Asked q
+pub question-reads : (q : Question) (n : ℕ) → n ≤ maxBits → InRange n q → readQuestion (questionBytes q) n ≡ value q
 question-reads q n m r = question-known (questionBytes q) n (question-kind-reads q) ∙ question-fields-read q n m r
 
 -- ---- what is read to a question is in range
-asked-then : {G : Type 0} (q : Question) (r : NumberRead) (f : ℕ → ℕ → QuestionRead) → ((v b : ℕ) → r ≡ Value v b → f v b ≡ Asked q → G) → thenAsk r f ≡ Asked q → G
-asked-then q (Value v b) f g e = g v b refl e
-asked-then q (NoNumber x) f g e = let z : _≡_ {A = ℕ} 0 1 = cc in absurd (omega arith)
-
-asked-if : {G : Type 0} (q : Question) (t : Bool) (x : Refusal) (a : QuestionRead) → (t ≡ false → a ≡ Asked q → G) → noQuestionIf t x a ≡ Asked q → G
-asked-if q true x a g e = let z : _≡_ {A = ℕ} 0 1 = cc in absurd (omega arith)
-asked-if q false x a g e = g refl e
-
-asked-is : {p q : Question} → Asked p ≡ Asked q → p ≡ q
-asked-is {p} {q} e = cc
-
 -- the numbers that an opening was read from
 record OpeningRead (s : List ℕ) (at : ℕ) (q : Question) : Type 0 where
   h : ℕ
@@ -197,37 +173,36 @@ record OpeningRead (s : List ℕ) (at : ℕ) (q : Question) : Type 0 where
   b : ℕ
   c : ℕ
   end : ℕ
-  first : numberAt s at ≡ Value 1 b
-  second : numberAt s b ≡ Value h c
-  third : numberAt s c ≡ Value key end
+  first : numberAt s at ≡ value (1, b)
+  second : numberAt s b ≡ value (h, c)
+  third : numberAt s c ≡ value (key, end)
   nothing : length s ≤ end
   within : OpeningWithin h key
   is : AskOpen h key ≡ q
 
-opening-read : (s : List ℕ) (at : ℕ) (q : Question) → openingAt s at ≡ Asked q → OpeningRead s at q
+opening-read : (s : List ℕ) (at : ℕ) (q : Question) → openingAt s at ≡ value q → OpeningRead s at q
 unfolding openingAt
-opening-read s at q =
-    asked-then q (numberAt s at) _ (λ version b e₁.
-    asked-then q (numberAt s b) _ (λ h c e₂.
-    asked-then q (numberAt s c) _ (λ key end e₃.
-    asked-if q (ltb end (length s)) _ _ (λ t₁.
-    asked-if q (not (eqb version 1)) _ _ (λ t₂.
-    asked-if q (not (hashLimits h)) _ _ (λ t₃.
-    asked-if q (not (keyLimits key)) _ _ (λ t₄ e.
-    let u = not-false (hashLimits h) t₃ in
+opening-read s at q is =
+    let (v, e₁, is₁) = then-passed (numberAt s at) _ q is in
+    let (h, e₂, is₂) = then-passed (numberAt s (v .1)) _ q is₁ in
+    let (key, e₃, is₃) = then-passed (numberAt s (h .1)) _ q is₂ in
+    let (t₁, is₄) = unless-passed (leb (length s) (key .1)) TrailingBytes _ q is₃ in
+    let (t₂, is₅) = unless-passed (eqb (v .0) 1) OutOfRange _ q is₄ in
+    let (t₃, is₆) = unless-passed (hashLimits (h .0)) OutOfRange _ q is₅ in
+    let (t₄, is₇) = unless-passed (keyLimits (key .0)) OutOfRange _ q is₆ in
     record {
-      h = h;
-      key = key;
-      b = b;
-      c = c;
-      end = end;
-      first = e₁ ∙ ap (λ (v : ℕ). Value v b) (eqb-true version 1 (not-false (eqb version 1) t₂));
+      h = h .0;
+      key = key .0;
+      b = v .1;
+      c = h .1;
+      end = key .1;
+      first = e₁ ∙ ap (λ (n : ℕ). value (n, v .1)) (eqb-true (v .0) 1 t₂);
       second = e₂;
       third = e₃;
-      nothing = ltb-false end (length s) t₁;
-      within = record { h-least = leb-true 8 h (and-left (leb 8 h) (leb h 32) u); h-most = leb-true h 32 (and-right (leb 8 h) (leb h 32) u); key-least = leb-true 1 key (and-left (leb 1 key) (leb key 4294967295) (not-false (keyLimits key) t₄)) };
-      is = asked-is e;
-    })))))))
+      nothing = leb-true (length s) (key .1) t₁;
+      within = record { h-least = leb-true 8 (h .0) (and-left (leb 8 (h .0)) (leb (h .0) 32) t₃); h-most = leb-true (h .0) 32 (and-right (leb 8 (h .0)) (leb (h .0) 32) t₃); key-least = leb-true 1 (key .0) (and-left (leb 1 (key .0)) (leb (key .0) 4294967295) t₄) };
+      is = value-is is₇;
+    }
 
 -- the numbers that a range was read from
 record RangeRead (ask : ℕ → ℕ → Question) (s : List ℕ) (at n : ℕ) (q : Question) : Type 0 where
@@ -235,34 +210,34 @@ record RangeRead (ask : ℕ → ℕ → Question) (s : List ℕ) (at n : ℕ) (q
   len : ℕ
   b : ℕ
   end : ℕ
-  first : numberAt s at ≡ Value start b
-  second : numberAt s b ≡ Value len end
+  first : numberAt s at ≡ value (start, b)
+  second : numberAt s b ≡ value (len, end)
   nothing : length s ≤ end
   within : RangeWithin n start len
   is : ask start len ≡ q
 
-range-read : (ask : ℕ → ℕ → Question) (s : List ℕ) (at n : ℕ) (q : Question) → rangeAt ask s at n ≡ Asked q → RangeRead ask s at n q
+range-read : (ask : ℕ → ℕ → Question) (s : List ℕ) (at n : ℕ) (q : Question) → rangeAt ask s at n ≡ value q → RangeRead ask s at n q
 unfolding rangeAt
-range-read ask s at n q =
-    asked-then q (numberAt s at) _ (λ start b e₁.
-    asked-then q (numberAt s b) _ (λ len end e₂.
-    asked-if q (ltb end (length s)) _ _ (λ t₁.
-    asked-if q (ltb len 1) _ _ (λ t₂.
-    asked-if q (ltb n (start + len)) _ _ (λ t₃ e.
+range-read ask s at n q is =
+    let (start, e₁, is₁) = then-passed (numberAt s at) _ q is in
+    let (len, e₂, is₂) = then-passed (numberAt s (start .1)) _ q is₁ in
+    let (t₁, is₃) = unless-passed (leb (length s) (len .1)) TrailingBytes _ q is₂ in
+    let (t₂, is₄) = unless-passed (leb 1 (len .0)) OutOfRange _ q is₃ in
+    let (t₃, is₅) = unless-passed (leb (start .0 + len .0) n) OutOfRange _ q is₄ in
     record {
-      start = start;
-      len = len;
-      b = b;
-      end = end;
+      start = start .0;
+      len = len .0;
+      b = start .1;
+      end = len .1;
       first = e₁;
       second = e₂;
-      nothing = ltb-false end (length s) t₁;
-      within = record { some = ltb-false len 1 t₂; ends = ltb-false n (start + len) t₃ };
-      is = asked-is e;
-    })))))
+      nothing = leb-true (length s) (len .1) t₁;
+      within = record { some = leb-true 1 (len .0) t₂; ends = leb-true (start .0 + len .0) n t₃ };
+      is = value-is is₅;
+    }
 
 -- the question has the kind that was read, within 01's limits
-pub fields-within : (k : Kind) (s : List ℕ) (at n : ℕ) (q : Question) → fieldsAt k s at n ≡ Asked q → (questionKind q ≡ k) × Within n q
+pub fields-within : (k : Kind) (s : List ℕ) (at n : ℕ) (q : Question) → fieldsAt k s at n ≡ value q → (questionKind q ≡ k) × Within n q
 unfolding fieldsAt
 fields-within Open s at n q e = let r = opening-read s at q e in rw (← r .is) (refl, r .within)
 fields-within Hash s at n q e = let r = range-read AskHash s at n q e in rw (← r .is) (refl, r .within)
@@ -280,7 +255,7 @@ module _ (s : List ℕ) (bytes : Bytes s) where
   range-form ask at n q r =
       number-form s at (r .start) (r .b) bytes (r .first) .stands ∙ ap (λ (l : List ℕ). number (r .start) ++ l) (number-form-last s (r .b) (r .len) (r .end) bytes (r .second) (r .nothing))
 
-  pub fields-form : (k : Kind) (at n : ℕ) (q : Question) → fieldsAt k s at n ≡ Asked q → FieldsOf k s at n q
+  pub fields-form : (k : Kind) (at n : ℕ) (q : Question) → fieldsAt k s at n ≡ value q → FieldsOf k s at n q
   unfolding fieldsAt
   fields-form Open at n q e =
       let r = opening-read s at q e in
@@ -305,31 +280,24 @@ pub record IsQuestion (s : List ℕ) (n : ℕ) (q : Question) : Type 0 where
   pub range : InRange n q
   pub bytes : s ≡ questionBytes q
 
--- a question that was read had a kind
-pub question-kind : (s : List ℕ) (n : ℕ) (q : Question) {G : Type 0} → readQuestion s n ≡ Asked q → ((k : Kind) (at : ℕ) → kindAt s ≡ Known k at → fieldsAt k s at n ≡ Asked q → G) → G
+pub question-form : (s : List ℕ) (n : ℕ) (q : Question) → Bytes s → readQuestion s n ≡ value q → IsQuestion s n q
 unfolding readQuestion
-question-kind s n q {G} e g = go (kindAt s) refl e
-  where
-    go : (r : KindRead) → kindAt s ≡ r → thenFields r s n ≡ Asked q → G
-    go (Known k at) f e = g k at f e
-    go (NoKind x) f e = let z : _≡_ {A = ℕ} 0 1 = cc in absurd (omega arith)
-
-pub question-form : (s : List ℕ) (n : ℕ) (q : Question) → Bytes s → readQuestion s n ≡ Asked q → IsQuestion s n q
-question-form s n q bytes e = question-kind s n q e (λ k at f g.
-    let i = kind-form s k at bytes f in
-    let r = fields-form s bytes k at n q g in
+question-form s n q bytes e =
+    let (p, f, g) = then-passed (kindAt s) _ q e in
+    let i = kind-form s (p .0) (p .1) bytes f in
+    let r = fields-form s bytes (p .0) (p .1) n q g in
     record {
       range = r .range;
       bytes = i .begins ∙ ap₂ (λ (x : Kind) (l : List ℕ). number (kindNumber x) ++ l) (sym (r .kind)) (ap (λ (j : ℕ). drop j s) (sym (i .one)) ∙ r .bytes) ∙ sym (question-parts q);
-    })
+    }
 
 -- an empty message is no question
-pub empty-no-question : (n : ℕ) (q : Question) → readQuestion [] n ≡ Asked q → ⊥
+pub empty-no-question : (n : ℕ) (q : Question) → readQuestion [] n ≡ value q → ⊥
 empty-no-question n q e =
     let f = ap length (question-form [] n q (λ i. omega arith) e .bytes) in
     let s = question-some q in
     omega arith
 
 -- so two messages that are read to the same question are the same
-pub question-one : (s t : List ℕ) (n : ℕ) (q : Question) → Bytes s → Bytes t → readQuestion s n ≡ Asked q → readQuestion t n ≡ Asked q → s ≡ t
+pub question-one : (s t : List ℕ) (n : ℕ) (q : Question) → Bytes s → Bytes t → readQuestion s n ≡ value q → readQuestion t n ≡ value q → s ≡ t
 question-one s t n q h k e f = question-form s n q h e .bytes ∙ sym (question-form t n q k f .bytes)

@@ -6,80 +6,80 @@ use native.Mathlib.Nat.{zero-add}
 use native.Mathlib.Omega.{arith}
 use lib.ListN.{length, take, drop, length-append, length-drop, drop-of-length-le}
 use lib.Seq.{sets, sets-eq, take-all, drop-drop}
-use borrow.Author.Tests.{lt-ltb, le-ltb}
+use borrow.Author.Tests.{lt-leb, le-leb}
 use Rattle.strings.specs.Bits.{range, bytesFor, pack, cleared, writeBits, atFront}
 use Rattle.strings.specs.laws.RangeLaws.{range-length}
 use Rattle.strings.specs.laws.StoreLaws.{sets-append, sets-front}
 use Rattle.strings.specs.laws.PackLaws.{write-cleared}
 use Rattle.messages.specs.declared.WriteResult.the-variants.{Written, TooShort}
-use Rattle.messages.specs.Writing.{leaves, putFront}
+use Rattle.messages.specs.Writing.{saidWrite, putFront}
 
 module _ (m buf : List ℕ) where
-  pub put-short : length buf < length m → leaves TooShort buf ≡ putFront m buf
+  pub put-short : length buf < length m → saidWrite TooShort buf ≡ putFront m buf
   unfolding putFront
-  put-short h = rw (lt-ltb (length buf) (length m) h) refl
+  put-short h = rw (lt-leb (length m) (length buf) h) refl
 
-  pub put-fits : length m ≤ length buf → putFront m buf ≡ leaves (Written (length m)) (atFront m buf)
+  pub put-fits : length m ≤ length buf → putFront m buf ≡ saidWrite (Written (length m)) (atFront m buf)
   unfolding putFront
-  put-fits h = rw (le-ltb (length buf) (length m) h) refl
+  put-fits h = rw (le-leb (length m) (length buf) h) refl
 
   -- as the code meets it: n bytes were stored, and left the list t
-  pub put-whole : {n : ℕ} {t : List ℕ} → length m ≤ length buf → n ≡ length m → t ≡ sets buf 0 m → leaves (Written n) t ≡ putFront m buf
-  put-whole h e f = ap₂ (λ (n : ℕ) (t : List ℕ). leaves (Written n) t) e (f ∙ sets-front buf m h) ∙ sym (put-fits h)
+  pub put-whole : {n : ℕ} {t : List ℕ} → length m ≤ length buf → n ≡ length m → t ≡ sets buf 0 m → saidWrite (Written n) t ≡ putFront m buf
+  put-whole h e f = ap₂ (λ (n : ℕ) (t : List ℕ). saidWrite (Written n) t) e (f ∙ sets-front buf m h) ∙ sym (put-fits h)
 
 -- ---- a message of parts, each written behind the one before
 -- after the part m at the front of s the list is t, and i is the position behind it
-record Wrote (s m t : List ℕ) (i : ℕ) : Type 0 where
+record Stored (s m t : List ℕ) (i : ℕ) : Type 0 where
   is : t ≡ sets s 0 m
   behind : i ≡ length m
 
-wrote-first : (s m t : List ℕ) (i : ℕ) → t ≡ sets s 0 m → i ≡ 0 + length m → Wrote s m t i
-wrote-first s m t i e f = record { is = e; behind = omega arith }
+stored-first : (s m t : List ℕ) (i : ℕ) → t ≡ sets s 0 m → i ≡ 0 + length m → Stored s m t i
+stored-first s m t i e f = record { is = e; behind = omega arith }
 
-wrote-next : (s m l t u : List ℕ) (i j : ℕ) → Wrote s m t i → u ≡ sets t i l → j ≡ i + length l → Wrote s (m ++ l) u j
-wrote-next s m l t u i j w e f =
+stored-next : (s m l t u : List ℕ) (i j : ℕ) → Stored s m t i → u ≡ sets t i l → j ≡ i + length l → Stored s (m ++ l) u j
+stored-next s m l t u i j w e f =
     record {
       is = e ∙ rw (w .behind, w .is) (ap (λ (k : ℕ). sets (sets s 0 m) k l) (sym (zero-add (length m))) ∙ sym (sets-append s m l 0));
       behind = (let n = length-append m l in let b = w .behind in omega arith);
     }
 
-wrote-all : (s m t : List ℕ) (n : ℕ) → length m ≤ length s → Wrote s m t n → leaves (Written n) t ≡ putFront m s
-wrote-all s m t n h w = put-whole m s h (w .behind) (w .is)
+stored-all : (s m t : List ℕ) (n : ℕ) → length m ≤ length s → Stored s m t n → saidWrite (Written n) t ≡ putFront m s
+stored-all s m t n h w = put-whole m s h (w .behind) (w .is)
 
 module _ (s a b : List ℕ) where
-  pub two-short : length s < length a + length b → leaves TooShort s ≡ putFront (a ++ b) s
+  pub two-short : length s < length a + length b → saidWrite TooShort s ≡ putFront (a ++ b) s
   two-short h = let l = length-append a b in put-short (a ++ b) s (omega arith)
 
   module _ (t u : List ℕ) (i j : ℕ) (e : t ≡ sets s 0 a) (f : i ≡ 0 + length a) (e₂ : u ≡ sets t i b) (f₂ : j ≡ i + length b) where
-    wrote-two : Wrote s (a ++ b) u j
-    wrote-two = wrote-next s a b t u i j (wrote-first s a t i e f) e₂ f₂
+    stored-two : Stored s (a ++ b) u j
+    stored-two = stored-next s a b t u i j (stored-first s a t i e f) e₂ f₂
 
-    pub two-whole : length a + length b ≤ length s → leaves (Written j) u ≡ putFront (a ++ b) s
-    two-whole h = let l = length-append a b in wrote-all s (a ++ b) u j (omega arith) wrote-two
+    pub two-whole : length a + length b ≤ length s → saidWrite (Written j) u ≡ putFront (a ++ b) s
+    two-whole h = let l = length-append a b in stored-all s (a ++ b) u j (omega arith) stored-two
 
     module _ (c w : List ℕ) (k : ℕ) (e₃ : w ≡ sets u j c) (f₃ : k ≡ j + length c) where
-      wrote-three : Wrote s (a ++ b ++ c) w k
-      wrote-three = wrote-next s (a ++ b) c u w j k wrote-two e₃ f₃
+      stored-three : Stored s (a ++ b ++ c) w k
+      stored-three = stored-next s (a ++ b) c u w j k stored-two e₃ f₃
 
-      pub three-whole : length a + length b + length c ≤ length s → leaves (Written k) w ≡ putFront (a ++ (b ++ c)) s
+      pub three-whole : length a + length b + length c ≤ length s → saidWrite (Written k) w ≡ putFront (a ++ (b ++ c)) s
       three-whole h =
           let l = length-append a b in
           let m = length-append (a ++ b) c in
-          wrote-all s (a ++ b ++ c) w k (omega arith) wrote-three ∙ ap (λ (x : List ℕ). putFront x s) (append-assoc a b c)
+          stored-all s (a ++ b ++ c) w k (omega arith) stored-three ∙ ap (λ (x : List ℕ). putFront x s) (append-assoc a b c)
 
       pub four-whole : (d x : List ℕ) (n : ℕ) → x ≡ sets w k d → n ≡ k + length d → length a + length b + length c + length d ≤ length s
-          → leaves (Written n) x ≡ putFront (a ++ (b ++ (c ++ d))) s
+          → saidWrite (Written n) x ≡ putFront (a ++ (b ++ (c ++ d))) s
       four-whole d x n e₄ f₄ h =
           let l = length-append a b in
           let m = length-append (a ++ b) c in
           let o = length-append (a ++ b ++ c) d in
-          wrote-all s (a ++ b ++ c ++ d) x n (omega arith) (wrote-next s (a ++ b ++ c) d w x k n wrote-three e₄ f₄)
+          stored-all s (a ++ b ++ c ++ d) x n (omega arith) (stored-next s (a ++ b ++ c) d w x k n stored-three e₄ f₄)
           ∙ ap (λ (y : List ℕ). putFront y s) (append-assoc (a ++ b) c d ∙ append-assoc a b (c ++ d))
 
-pub three-short : (s a b c : List ℕ) → length s < length a + length b + length c → leaves TooShort s ≡ putFront (a ++ (b ++ c)) s
+pub three-short : (s a b c : List ℕ) → length s < length a + length b + length c → saidWrite TooShort s ≡ putFront (a ++ (b ++ c)) s
 three-short s a b c h = let l = length-append a (b ++ c) in let m = length-append b c in put-short (a ++ (b ++ c)) s (omega arith)
 
-pub four-short : (s a b c d : List ℕ) → length s < length a + length b + length c + length d → leaves TooShort s ≡ putFront (a ++ (b ++ (c ++ d))) s
+pub four-short : (s a b c d : List ℕ) → length s < length a + length b + length c + length d → saidWrite TooShort s ≡ putFront (a ++ (b ++ (c ++ d))) s
 four-short s a b c d h =
     let l = length-append a (b ++ (c ++ d)) in
     let m = length-append b (c ++ d) in

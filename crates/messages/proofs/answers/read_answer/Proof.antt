@@ -1,21 +1,25 @@
-use mathlib.Core.Path.{_≡_, refl, sym, _∙_}
-use Rattle.messages.specs.declared.numbers.NumberRead.the-variants.{Value}
+use mathlib.Core.Path.{_≡_, refl}
+use native.Mathlib.Omega.{arith}
+use Rattle.strings.specs.Results.{Result, value}
 use Rattle.messages.specs.Numbers.{numberAt}
-use Rattle.messages.specs.laws.NumberLaws.{number-inside}
+use Rattle.messages.specs.laws.NumberLaws.{no-number, read-there, number-inside}
 use Rattle.messages.specs.declared.Kind.{Kind}
-use Rattle.messages.specs.declared.AnswerRead.{AnswerRead}
-use Rattle.messages.specs.Answers.{answerFields, readAnswer}
-use Rattle.messages.specs.laws.AnswerLaws.{answer-no-number, answer-other, answer-fields}
+use Rattle.messages.specs.declared.Kind.the-variants.{Open, Hash, Syndrome}
+use Rattle.messages.specs.Answers.{Answer, answerFields, readAnswer}
+use Rattle.messages.specs.laws.AnswerLaws.{answer-other, answer-fields, not-bits}
 use borrow.Author.Needs.{needs}
 use Rattle.messages.proofs.answers.read_answer.Statement.{statement}
 use Rattle.messages.proofs.answers.read_answer.Tie as tie
 
 -- the number that the answer begins with
-number-read : (c : tie.After-v) → numberAt (c .before .before .before .before .args .s .now) 0 ≡ Value (c .v .given .0 .0) (c .v .given .0 .1 .0)
-number-read c = sym (c .before .before .next-number .ensures) ∙ c .v .given .1
+number-read : (c : tie.After-v) → numberAt (c .before .before .before .before .args .s .now) 0 ≡ value (c .v .given .0 .0, c .v .given .0 .1 .0)
+number-read c = read-there (c .before .before .next-number .ensures) (c .v .given .1)
+
+abbrev start : tie.Else1 → tie.Start
+start c = c .before .before .before .before .before .before .before
 
 -- where it is the number of the awaited kind, that kind's fields decide
-fields-decide : (c : tie.Else1) {o : AnswerRead} {kind : Kind} → let v = c .before .before .before in let a = v .before .before .before .before .args in
+fields-decide : (c : tie.Else1) {o : Result Answer} {kind : Kind} → let v = c .before .before .before in let a = start c .args in
     a .kind ≡ kind → o ≡ answerFields kind (a .len) (a .h) (a .s .now) (v .v .given .0 .1 .0) → o ≡ readAnswer (a .kind) (a .len) (a .h) (a .s .now)
 fields-decide c = answer-fields _ _ _ _ (number-read (c .before .before .before)) (c .before .kind-number .ensures) (c .if1 .left)
 
@@ -32,7 +36,7 @@ kind-number-requires : tie.Need-kind-number-requires
 kind-number-requires c κs = search needs
 
 returns : tie.Need-returns
-returns c = answer-other _ _ _ _ (number-read (c .before .before .before)) (c .before .kind-number .ensures) (c .if1 .taken)
+returns c = (answer-other _ _ _ _ (number-read (c .before .before .before)) (c .before .kind-number .ensures) (c .if1 .taken), tt)
 
 enum-told : tie.Need-enum-told
 enum-told c = search needs
@@ -60,23 +64,31 @@ read-bits-requires c κs = number-inside _ _ _ _ (number-read (c .before .before
 
 returns-2 : tie.Need-returns-2
 unfolding readAnswer
-returns-2 c = answer-no-number (c .before .before .before .next-number .ensures) _ refl (c .before .e .given .1)
+returns-2 c = (no-number (c .before .before .before .next-number .ensures) _ refl (c .before .e .given .1), tt)
 
 returns-3 : tie.Need-returns-3
 unfolding answerFields
-returns-3 c = fields-decide (c .before .before .before) (c .before .enum-told .given .1) (c .read-size .ensures)
+returns-3 c =
+    let len = start (c .before .before .before) .args .len in
+    let said = c .read-size .ensures len in
+    (fields-decide (c .before .before .before) (c .before .enum-told .given .1) said, not-bits Open len 0 _ _ (c .read-size .result) (omega arith) said)
 
 returns-4 : tie.Need-returns-4
 unfolding answerFields
-returns-4 c = fields-decide (c .before .before .before) (c .before .enum-told2 .given .1) (c .read-hash .ensures)
+returns-4 c =
+    let len = start (c .before .before .before) .args .len in
+    let said = c .read-hash .ensures len in
+    (fields-decide (c .before .before .before) (c .before .enum-told2 .given .1) said, not-bits Hash len _ _ _ (c .read-hash .result) (omega arith) said)
 
 returns-5 : tie.Need-returns-5
 unfolding answerFields
-returns-5 c = fields-decide (c .before .before .before) (c .before .enum-told3 .given .1) (c .read-syndrome .ensures)
+returns-5 c =
+    let said = c .read-syndrome .ensures in
+    (fields-decide (c .before .before .before) (c .before .enum-told3 .given .1) said, not-bits Syndrome _ _ _ _ (c .read-syndrome .result) (omega arith) said)
 
 returns-6 : tie.Need-returns-6
 unfolding answerFields
-returns-6 c = fields-decide (c .before .before .before) (c .before .enum-told4 .given .1) (c .read-bits .ensures)
+returns-6 c = (fields-decide (c .before .before .before) (c .before .enum-told4 .given .1) (c .read-bits .ensures .0), c .read-bits .ensures .1)
 
 pub read-answer-spec : {M : Type 1} → statement M
 read-answer-spec =

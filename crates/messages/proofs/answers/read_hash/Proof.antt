@@ -2,20 +2,20 @@ use mathlib.Core.Path.{_≡_, refl, sym, _∙_}
 use Prim.Native.Nat.{_^_}
 use lib.ListN.{length}
 use lib.Dec.{ltb, leb}
+use Rattle.strings.specs.Results.{value, unless}
 use Rattle.strings.specs.declared.Refusal.the-variants.{TrailingBytes, OutOfRange}
-use Rattle.messages.specs.declared.AnswerRead.the-variants.{IsHash}
-use Rattle.messages.specs.Answers.{noAnswerIf, hashAt}
-use borrow.Author.Tests.{le-ltb, lt-ltb}
-use Rattle.messages.specs.laws.AnswerLaws.{answer-no-number, answer-number}
+use Rattle.messages.specs.Answers.{hashAnswer, hashAt}
+use borrow.Author.Tests.{le-leb, lt-leb, not-true, not-false}
+use Rattle.messages.specs.laws.NumberLaws.{no-number, the-number}
 use borrow.Author.Needs.{needs}
 use Rattle.messages.proofs.answers.read_hash.Statement.{statement}
 use Rattle.messages.proofs.answers.read_hash.Tie as tie
 
 -- what is left to test where the number is known
 v-read : (c : tie.After-v) → let a = c .before .before .before .before .args in let v = c .v .given .0 .0 in
-    hashAt (a .h) (a .s .now) (a .at) ≡ noAnswerIf (ltb (c .v .given .0 .1 .0) (length (a .s .now))) TrailingBytes (noAnswerIf (leb (2 ^ a .h) v) OutOfRange (IsHash v))
+    hashAt (a .h) (a .s .now) (a .at) ≡ unless (leb (length (a .s .now)) (c .v .given .0 .1 .0)) TrailingBytes (unless (ltb v (2 ^ a .h)) OutOfRange (value (hashAnswer v)))
 unfolding hashAt
-v-read c = answer-number (c .before .before .next-number .ensures) _ refl (c .v .given .1)
+v-read c = the-number (c .before .before .next-number .ensures) _ refl (c .v .given .1)
 
 next-number-requires : tie.Need-next-number-requires
 next-number-requires c κs = search needs
@@ -27,20 +27,20 @@ enum-known-v : tie.Need-enum-known-v
 enum-known-v c = search needs
 
 returns : tie.Need-returns
-returns c = sym (v-read (c .before .before) ∙ simp (lt-ltb _ _ (c .if1 .taken)))
+returns c len = sym (v-read (c .before .before) ∙ simp (lt-leb _ _ (c .if1 .taken)))
 
-too-wide-requires : tie.Need-too-wide-requires
-too-wide-requires c κs = search needs
+is-hash-requires : tie.Need-is-hash-requires
+is-hash-requires c κs = search needs
 
 returns-2 : tie.Need-returns-2
-returns-2 c = sym (v-read (c .before .before .before .before) ∙ simp (le-ltb _ _ (c .before .before .if1 .left), sym (c .before .too-wide .ensures) ∙ c .if2 .taken))
+returns-2 c len = sym (v-read (c .before .before .before .before) ∙ simp (le-leb _ _ (c .before .before .if1 .left), sym (c .before .is-hash .ensures) ∙ not-true _ (c .if2 .taken)))
 
 returns-3 : tie.Need-returns-3
 unfolding hashAt
-returns-3 c = answer-no-number (c .before .before .before .next-number .ensures) _ refl (c .before .e .given .1)
+returns-3 c len = no-number (c .before .before .before .next-number .ensures) _ refl (c .before .e .given .1)
 
 returns-4 : tie.Need-returns-4
-returns-4 c = sym (v-read (c .before .before .before .before) ∙ simp (le-ltb _ _ (c .before .before .if1 .left), sym (c .before .too-wide .ensures) ∙ c .if2 .left))
+returns-4 c len = sym (v-read (c .before .before .before .before) ∙ simp (le-leb _ _ (c .before .before .if1 .left), sym (c .before .is-hash .ensures) ∙ not-false _ (c .if2 .left)))
 
 pub read-hash-spec : {M : Type 1} → statement M
 read-hash-spec =
@@ -50,7 +50,7 @@ read-hash-spec =
     enum-known-e
     enum-known-v
     returns
-    too-wide-requires
+    is-hash-requires
     returns-2
     returns-3
     returns-4)

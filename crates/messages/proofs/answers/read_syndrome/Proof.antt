@@ -1,30 +1,31 @@
 use mathlib.Core.Path.{_≡_, refl, sym, _∙_}
 use Prim.Native.Nat.{_^_}
 use lib.ListN.{length}
-use lib.Dec.{leb}
+use lib.Dec.{ltb}
+use Rattle.strings.specs.Results.{value, unless, andThen}
 use Rattle.strings.specs.declared.Refusal.the-variants.{OutOfRange}
 use Rattle.messages.specs.Numbers.{numberAt}
-use Rattle.messages.specs.declared.AnswerRead.the-variants.{IsSyndrome}
-use Rattle.messages.specs.Answers.{thenAnswer, noAnswerIf, syndromeAt}
-use borrow.Author.Tests.{le-ltb, lt-ltb}
-use Rattle.messages.specs.laws.AnswerLaws.{answer-no-number, answer-number, syndromeIn}
+use Rattle.messages.specs.Answers.{syndromeAnswer, syndromeAt}
+use borrow.Author.Tests.{le-leb, lt-leb, not-true, not-false}
+use Rattle.messages.specs.laws.NumberLaws.{no-number, the-number}
+use Rattle.messages.specs.laws.AnswerLaws.{syndromeIn}
 use borrow.Author.Needs.{needs}
 use Rattle.messages.proofs.answers.read_syndrome.Statement.{statement}
 use Rattle.messages.proofs.answers.read_syndrome.Tie as tie
 
 -- what is left to read where the first number is known, and to test where the second is
 a-read : (c : tie.After-a) → let a = c .before .before .before .before .args in let s = a .s .now in
-    syndromeAt (a .len) (a .h) s (a .at) ≡ thenAnswer (numberAt s (c .a .given .0 .1 .0)) (syndromeIn (a .len) (a .h) (length s) (c .a .given .0 .0))
+    syndromeAt (a .len) (a .h) s (a .at) ≡ andThen (numberAt s (c .a .given .0 .1 .0)) (λ (v, end). syndromeIn (a .len) (a .h) (length s) (c .a .given .0 .0) v end)
 unfolding syndromeAt
-a-read c = answer-number (c .before .before .next-number .ensures) _ refl (c .a .given .1)
+a-read c = the-number (c .before .before .next-number .ensures) _ refl (c .a .given .1)
 
 both-read : (c : tie.After-v) → let f = c .before .before .before .before in let a = f .before .before .before .before .args in let s = a .s .now in
     syndromeAt (a .len) (a .h) s (a .at) ≡ syndromeIn (a .len) (a .h) (length s) (f .a .given .0 .0) (c .v .given .0 .0) (c .v .given .0 .1 .0)
-both-read c = answer-number (c .before .before .next-number2 .ensures) _ (a-read (c .before .before .before .before)) (c .v .given .1)
+both-read c = the-number (c .before .before .next-number2 .ensures) _ (a-read (c .before .before .before .before)) (c .v .given .1)
 
 in-range : (c : tie.Else2) → let v = c .before .before .before in let f = v .before .before .before .before in let a = f .before .before .before .before .args in
-    syndromeAt (a .len) (a .h) (a .s .now) (a .at) ≡ noAnswerIf (leb (2 ^ a .h) (v .v .given .0 .0)) OutOfRange (IsSyndrome (f .a .given .0 .0) (v .v .given .0 .0))
-in-range c = both-read (c .before .before .before) ∙ simp (le-ltb _ _ (c .before .if1 .left), le-ltb _ _ (c .if2 .left))
+    syndromeAt (a .len) (a .h) (a .s .now) (a .at) ≡ unless (ltb (v .v .given .0 .0) (2 ^ a .h)) OutOfRange (value (syndromeAnswer (f .a .given .0 .0) (v .v .given .0 .0)))
+in-range c = both-read (c .before .before .before) ∙ simp (le-leb _ _ (c .before .if1 .left), le-leb _ _ (c .if2 .left))
 
 next-number-requires : tie.Need-next-number-requires
 next-number-requires c κs = search needs
@@ -45,26 +46,26 @@ enum-known-v : tie.Need-enum-known-v
 enum-known-v c = search needs
 
 returns : tie.Need-returns
-returns c = sym (both-read (c .before .before) ∙ simp (lt-ltb _ _ (c .if1 .taken)))
+returns c = sym (both-read (c .before .before) ∙ simp (lt-leb _ _ (c .if1 .taken)))
 
 returns-2 : tie.Need-returns-2
-returns-2 c = sym (both-read (c .before .before .before) ∙ simp (le-ltb _ _ (c .before .if1 .left), lt-ltb _ _ (c .if2 .taken)))
+returns-2 c = sym (both-read (c .before .before .before) ∙ simp (le-leb _ _ (c .before .if1 .left), lt-leb _ _ (c .if2 .taken)))
 
-too-wide-requires : tie.Need-too-wide-requires
-too-wide-requires c κs = search needs
+is-hash-requires : tie.Need-is-hash-requires
+is-hash-requires c κs = search needs
 
 returns-3 : tie.Need-returns-3
-returns-3 c = sym (in-range (c .before .before) ∙ simp (sym (c .before .too-wide .ensures) ∙ c .if3 .taken))
+returns-3 c = sym (in-range (c .before .before) ∙ simp (sym (c .before .is-hash .ensures) ∙ not-true _ (c .if3 .taken)))
 
 returns-4 : tie.Need-returns-4
 unfolding syndromeAt
-returns-4 c = answer-no-number (c .before .before .before .next-number .ensures) _ refl (c .before .e .given .1)
+returns-4 c = no-number (c .before .before .before .next-number .ensures) _ refl (c .before .e .given .1)
 
 returns-5 : tie.Need-returns-5
-returns-5 c = answer-no-number (c .before .before .before .next-number2 .ensures) _ (a-read (c .before .before .before .before .before)) (c .before .e2 .given .1)
+returns-5 c = no-number (c .before .before .before .next-number2 .ensures) _ (a-read (c .before .before .before .before .before)) (c .before .e2 .given .1)
 
 returns-6 : tie.Need-returns-6
-returns-6 c = sym (in-range (c .before .before) ∙ simp (sym (c .before .too-wide .ensures) ∙ c .if3 .left))
+returns-6 c = sym (in-range (c .before .before) ∙ simp (sym (c .before .is-hash .ensures) ∙ not-false _ (c .if3 .left)))
 
 pub read-syndrome-spec : {M : Type 1} → statement M
 read-syndrome-spec =
@@ -78,7 +79,7 @@ read-syndrome-spec =
     enum-known-v
     returns
     returns-2
-    too-wide-requires
+    is-hash-requires
     returns-3
     returns-4
     returns-5

@@ -1,3 +1,6 @@
+use mathlib.Core.Path.{ap, _∙_}
+use mathlib.Core.List.{_++_}
+use Prim.Native.Nat.{ℕ}
 use native.Mathlib.Omega.{arith}
 use Rattle.strings.specs.Bits.{range, pack}
 use Rattle.strings.specs.laws.RangeLaws.{range-length}
@@ -5,6 +8,7 @@ use Rattle.strings.specs.laws.PackLaws.{length-pack}
 use Rattle.messages.specs.Numbers.{number}
 use Rattle.messages.specs.laws.NumberLaws.{size-last}
 use Rattle.messages.specs.Answers.{answerBytes}
+use Rattle.messages.specs.Writing.{putFront}
 use Rattle.messages.specs.laws.WritingLaws.{two-short, two-whole}
 use borrow.Author.Needs.{needs}
 use Rattle.messages.proofs.answers.write_bits.Statement.{statement}
@@ -24,11 +28,14 @@ returns c =
     let n = length-pack (range (a .x .now) (a .start) (a .len)) in
     two-short (a .buf .now) (number 3) (pack (range (a .x .now) (a .start) (a .len))) (omega (arith, size-last 3 (omega arith)))
 
+kind-number-requires : tie.Need-kind-number-requires
+kind-number-requires c κs = search needs
+
 put-number-requires : tie.Need-put-number-requires
-put-number-requires c κs = omega (arith, size-last 3 (omega arith))
+put-number-requires c κs = let k = c .before .kind-number in omega (arith, size-last (k .result) (omega (arith, k .ensures)))
 
 put-bits-requires : tie.Need-put-bits-requires
-put-bits-requires c κs = (search needs, omega (arith, size-last 3 (omega arith)))
+put-bits-requires c κs = let k = c .before .before .before .before .before .kind-number in (search needs, omega (arith, size-last (k .result) (omega (arith, k .ensures))))
 
 same-length : tie.Need-same-length
 same-length c = search needs
@@ -36,12 +43,15 @@ same-length c = search needs
 returns-2 : tie.Need-returns-2
 unfolding answerBytes
 returns-2 c =
-    let a = c .before .before .before .before .before .before .before .before .before .before .before .args in
+    let a = c .before .before .before .before .before .before .before .before .before .before .before .before .args in
+    let k = c .before .before .before .before .before .before .before .before .kind-number in
+    let one = size-last (k .result) (omega (arith, k .ensures)) in
     let put-number = c .before .before .before .before .before .before .put-number in
     let put-bits = c .before .before .put-bits in
     let l = range-length (a .x .now) (a .start) (a .len) in
     let n = length-pack (range (a .x .now) (a .start) (a .len)) in
-    two-whole (a .buf .now) (number 3) (pack (range (a .x .now) (a .start) (a .len))) _ _ _ _ (put-number .ensures .1) (put-number .ensures .0) (put-bits .ensures) (omega (arith, size-last 3 (omega arith))) (omega (arith, size-last 3 (omega arith)))
+    two-whole (a .buf .now) (number (k .result)) (pack (range (a .x .now) (a .start) (a .len))) _ _ _ _ (put-number .ensures .1) (put-number .ensures .0) (put-bits .ensures) (omega arith) (omega arith)
+    ∙ ap (λ (i : ℕ). putFront (number i ++ pack (range (a .x .now) (a .start) (a .len))) (a .buf .now)) (k .ensures)
 
 pub write-bits-spec : {M : Type 1} → statement M
 write-bits-spec =
@@ -50,6 +60,7 @@ write-bits-spec =
     add-size
     add-size-2
     returns
+    kind-number-requires
     put-number-requires
     put-bits-requires
     same-length

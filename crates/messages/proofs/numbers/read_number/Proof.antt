@@ -5,7 +5,7 @@ use native.Mathlib.Omega.{arith}
 use lib.ListN.{length}
 use Rattle.messages.specs.Numbers.{nextByte, numberAt}
 use Rattle.messages.specs.laws.NumberLaws.{weight, weight-most, read-first, turn-fits, read-cut, read-zero, read-last, read-next, read-none, read-short, read-end}
-use Rattle.messages.specs.declared.numbers.NumberRead.the-variants.{Value}
+use Rattle.strings.specs.Results.{value}
 use Rattle.messages.proofs.numbers.read_number.Statement.{statement}
 use Rattle.messages.proofs.numbers.read_number.Tie as tie
 
@@ -47,7 +47,7 @@ returns-2 c =
     let a = c .before .before .before .before .before .args in
     let if1 = c .before .before .before .if1 in
     let if2 = c .before .if2 in
-    ap (λ (n : ℕ). Value n (a .at + 1)) (c .wide .ensures) ∙ sym (read-short _ (a .at) _ (if1 .left) refl (if2 .taken))
+    ap (λ (n : ℕ). value (n, a .at + 1)) (c .wide .ensures) ∙ sym (read-short _ (a .at) _ (if1 .left) refl (if2 .taken))
 
 wide-requires-2 : tie.Need-wide-requires-2 Inv-loop μ-loop
 wide-requires-2 c κs = search needs
@@ -92,7 +92,7 @@ returns-5 c =
     let if4 = c .before .before .if4 in
     let if5 = c .before .if5 in
     let l = loop in
-    ap (λ (n : ℕ). Value (l .v + l .w * n) (l .i + 1)) (c .wide3 .ensures) ∙ sym (read-last _ (l .k) (l .i) (l .w) (l .v) (loop-test .taken) (if3 .left) (if4 .left) (if5 .taken)) ∙ l .inv .4
+    ap (λ (n : ℕ). value (l .v + l .w * n, l .i + 1)) (c .wide3 .ensures) ∙ sym (read-last _ (l .k) (l .i) (l .w) (l .v) (loop-test .taken) (if3 .left) (if4 .left) (if5 .taken)) ∙ l .inv .4
 
 wide-requires-4 : tie.Need-wide-requires-4 Inv-loop μ-loop
 wide-requires-4 c κs = search needs

@@ -1,21 +1,22 @@
 use mathlib.Core.Path.{_≡_, refl, sym, _∙_}
 use lib.ListN.{length}
+use Rattle.strings.specs.Results.{andThen}
 use Rattle.messages.specs.Numbers.{numberAt}
-use Rattle.messages.specs.Questions.{thenAsk, openingIn, openingAt}
-use Rattle.messages.specs.laws.QuestionLaws.{ask-no-number, ask-number}
+use Rattle.messages.specs.Questions.{openingIn, openingAt}
+use Rattle.messages.specs.laws.NumberLaws.{no-number, the-number}
 use borrow.Author.Needs.{needs}
 use Rattle.messages.proofs.questions.read_opening.Statement.{statement}
 use Rattle.messages.proofs.questions.read_opening.Tie as tie
 
 -- what is left to read where the version is known, and where h is
 version-read : (c : tie.After-version) → let a = c .before .before .before .before .args in let s = a .s .now in
-    openingAt s (a .at) ≡ thenAsk (numberAt s (c .version .given .0 .1 .0)) (λ h b. thenAsk (numberAt s b) (openingIn (length s) (c .version .given .0 .0) h))
+    openingAt s (a .at) ≡ andThen (numberAt s (c .version .given .0 .1 .0)) (λ (h, b). andThen (numberAt s b) (λ (key, end). openingIn (length s) (c .version .given .0 .0) h key end))
 unfolding openingAt
-version-read c = ask-number (c .before .before .next-number .ensures) _ refl (c .version .given .1)
+version-read c = the-number (c .before .before .next-number .ensures) _ refl (c .version .given .1)
 
 h-read : (c : tie.After-h) → let v = c .before .before .before .before in let a = v .before .before .before .before .args in let s = a .s .now in
-    openingAt s (a .at) ≡ thenAsk (numberAt s (c .h .given .0 .1 .0)) (openingIn (length s) (v .version .given .0 .0) (c .h .given .0 .0))
-h-read c = ask-number (c .before .before .next-number2 .ensures) _ (version-read (c .before .before .before .before)) (c .h .given .1)
+    openingAt s (a .at) ≡ andThen (numberAt s (c .h .given .0 .1 .0)) (λ (key, end). openingIn (length s) (v .version .given .0 .0) (c .h .given .0 .0) key end)
+h-read c = the-number (c .before .before .next-number2 .ensures) _ (version-read (c .before .before .before .before)) (c .h .given .1)
 
 next-number-requires : tie.Need-next-number-requires
 next-number-requires c κs = search needs
@@ -49,16 +50,16 @@ opening-in-requires c κs = search needs
 
 returns : tie.Need-returns
 unfolding openingAt
-returns c = ask-no-number (c .before .before .before .next-number .ensures) _ refl (c .before .e .given .1)
+returns c = no-number (c .before .before .before .next-number .ensures) _ refl (c .before .e .given .1)
 
 returns-2 : tie.Need-returns-2
-returns-2 c = ask-no-number (c .before .before .before .next-number2 .ensures) _ (version-read (c .before .before .before .before .before)) (c .before .e2 .given .1)
+returns-2 c = no-number (c .before .before .before .next-number2 .ensures) _ (version-read (c .before .before .before .before .before)) (c .before .e2 .given .1)
 
 returns-3 : tie.Need-returns-3
-returns-3 c = ask-no-number (c .before .before .before .next-number3 .ensures) _ (h-read (c .before .before .before .before .before)) (c .before .e3 .given .1)
+returns-3 c = no-number (c .before .before .before .next-number3 .ensures) _ (h-read (c .before .before .before .before .before)) (c .before .e3 .given .1)
 
 returns-4 : tie.Need-returns-4
-returns-4 c = c .opening-in .ensures ∙ sym (ask-number (c .before .before .before .before .next-number3 .ensures) _ (h-read (c .before .before .before .before .before .before)) (c .before .before .key .given .1))
+returns-4 c = c .opening-in .ensures ∙ sym (the-number (c .before .before .before .before .next-number3 .ensures) _ (h-read (c .before .before .before .before .before .before)) (c .before .before .key .given .1))
 
 pub read-opening-spec : {M : Type 1} → statement M
 read-opening-spec =

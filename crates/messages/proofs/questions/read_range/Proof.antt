@@ -1,17 +1,18 @@
 use mathlib.Core.Path.{_≡_, refl, sym, _∙_}
 use lib.ListN.{length}
+use Rattle.strings.specs.Results.{andThen}
 use Rattle.messages.specs.Numbers.{numberAt}
-use Rattle.messages.specs.Questions.{asking, thenAsk, rangeIn, rangeAt}
-use Rattle.messages.specs.laws.QuestionLaws.{ask-no-number, ask-number}
+use Rattle.messages.specs.Questions.{asking, rangeIn, rangeAt}
+use Rattle.messages.specs.laws.NumberLaws.{no-number, the-number}
 use borrow.Author.Needs.{needs}
 use Rattle.messages.proofs.questions.read_range.Statement.{statement}
 use Rattle.messages.proofs.questions.read_range.Tie as tie
 
 -- what is left to read where the start is known
 start-read : (c : tie.After-start) → let a = c .before .before .before .before .args in let s = a .s .now in
-    rangeAt (asking (a .kind)) s (a .at) (a .n) ≡ thenAsk (numberAt s (c .start .given .0 .1 .0)) (rangeIn (asking (a .kind)) (length s) (a .n) (c .start .given .0 .0))
+    rangeAt (asking (a .kind)) s (a .at) (a .n) ≡ andThen (numberAt s (c .start .given .0 .1 .0)) (λ (len, end). rangeIn (asking (a .kind)) (length s) (a .n) (c .start .given .0 .0) len end)
 unfolding rangeAt
-start-read c = ask-number (c .before .before .next-number .ensures) _ refl (c .start .given .1)
+start-read c = the-number (c .before .before .next-number .ensures) _ refl (c .start .given .1)
 
 next-number-requires : tie.Need-next-number-requires
 next-number-requires c κs = search needs
@@ -36,13 +37,13 @@ range-in-requires c κs = search needs
 
 returns : tie.Need-returns
 unfolding rangeAt
-returns c = ask-no-number (c .before .before .before .next-number .ensures) _ refl (c .before .e .given .1)
+returns c = no-number (c .before .before .before .next-number .ensures) _ refl (c .before .e .given .1)
 
 returns-2 : tie.Need-returns-2
-returns-2 c = ask-no-number (c .before .before .before .next-number2 .ensures) _ (start-read (c .before .before .before .before .before)) (c .before .e2 .given .1)
+returns-2 c = no-number (c .before .before .before .next-number2 .ensures) _ (start-read (c .before .before .before .before .before)) (c .before .e2 .given .1)
 
 returns-3 : tie.Need-returns-3
-returns-3 c = c .range-in .ensures ∙ sym (ask-number (c .before .before .before .before .next-number2 .ensures) _ (start-read (c .before .before .before .before .before .before)) (c .before .before .len .given .1))
+returns-3 c = c .range-in .ensures ∙ sym (the-number (c .before .before .before .before .next-number2 .ensures) _ (start-read (c .before .before .before .before .before .before)) (c .before .before .len .given .1))
 
 pub read-range-spec : {M : Type 1} → statement M
 read-range-spec =

@@ -37,7 +37,8 @@ use denote.Triple.Table.{entered, cited}
 use denote.Triple.Walked.{says, Stays, stay-none, stay-none-slice, walkOf, goes-none, goes-none-slice, Walks, ends-at, walked, walk-meets}
 use denote.Exit.{yes}
 use denote.Triple.Clauses.{ensured, lasts}
-use Rattle.messages.specs.Numbers.{numberAt}
+use Rattle.strings.specs.Results.{Result}
+use Rattle.messages.specs.Numbers.{numberAt, saidNumber}
 use Rattle.messages.specs.declared.reading.Reader.{Reader}
 use Rattle.messages.specs.declared.numbers.NumberRead.{NumberRead}
 use Rattle.messages.proofs.reading.Reader as T
@@ -80,7 +81,7 @@ module _ {M : Type 1} (𝓤 : URA M) (H : Heap 𝓤) (A : Atoms 𝓤) (W : Given
   abbrev at : Vals next-number.signature (κ, tt)
   at = (v ∷ [], (vint w64 n ∷ [], tt))
 
-  abbrev found : NumberRead
+  abbrev found : Result (ℕ × ℕ)
   found = numberAt (now s) n
 
   -- the struct's lifetime as a local of a body has it
@@ -117,10 +118,10 @@ module _ {M : Type 1} (𝓤 : URA M) (H : Heap 𝓤) (A : Atoms 𝓤) (W : Given
   goes-read-next : (r : Reader) (u : Val) → ent 𝓤 (⋆ 𝓤 H A (‵ (B (κ, tt) .own r (u ∷ [])) ∷ (‵ (flft κ q) ⊛ ‵ ftrue) ∷ [])) (ReadNext 𝓤 H A mem run .pre (to-read-next r u))
   goes-read-next r u = qed W (‵ (B (κ, tt) .own r (u ∷ [])) ∷ (‵ (flft κ q) ⊛ ‵ ftrue) ∷ []) ∵ nothing ! $ move ! (1 ∷ 0 ∷ []) $ fjoin ! $ move ! (1 ∷ 0 ∷ []) $ join ! $ frame ! $ done !
 
-  read-next-said : (r : Reader) (t : NumberRead) → ent 𝓤 (ensured 𝓤 H A read-next.ended (read-next.clauses 𝓤 H A mem run) (κ, tt) (r, tt) tt t) (fact 𝓤 (t ≡ numberAt (now (r .src)) (r .at)))
-  read-next-said r t = exE 𝓤 _ (λ ws. snd∗ 𝓤 (sem 𝓤 H A (lasts read-next.ended (κ, tt) (r, tt) ws)) (fact 𝓤 (t ≡ numberAt (now (r .src)) (r .at))))
+  read-next-said : (r : Reader) (t : NumberRead) → ent 𝓤 (ensured 𝓤 H A read-next.ended (read-next.clauses 𝓤 H A mem run) (κ, tt) (r, tt) tt t) (fact 𝓤 (saidNumber t ≡ numberAt (now (r .src)) (r .at)))
+  read-next-said r t = exE 𝓤 _ (λ ws. snd∗ 𝓤 (sem 𝓤 H A (lasts read-next.ended (κ, tt) (r, tt) ws)) (fact 𝓤 (saidNumber t ≡ numberAt (now (r .src)) (r .at))))
 
-  exits : (t : NumberRead) (u : Val) → t ≡ found → ent 𝓤 (⋆ 𝓤 H A (‵ (S.the-row .own t (u ∷ [])) ∷ (‵ (flft κ q) ⊛ ‵ ftrue) ∷ ‵ Own ∷ [])) (Post u)
+  exits : (t : NumberRead) (u : Val) → saidNumber t ≡ found → ent 𝓤 (⋆ 𝓤 H A (‵ (S.the-row .own t (u ∷ [])) ∷ (‵ (flft κ q) ⊛ ‵ ftrue) ∷ ‵ Own ∷ [])) (Post u)
   exits t u e =
       qed W (‵ (S.the-row .own t (u ∷ [])) ∷ (‵ (flft κ q) ⊛ ‵ ftrue) ∷ ‵ Own ∷ []) ∵
       suffices ! _ (ends-at 𝓤 H A next-number.ended stayed (next-number.clauses 𝓤 H A mem run) W (((κ, tt), (q, tt), tt, (s, (n, tt)), at), tt) u t (tt, (tt, tt)) (tt, (tt, tt))) $ says ! e $
@@ -144,7 +145,7 @@ module _ {M : Type 1} (𝓤 : URA M) (H : Heap 𝓤) (A : Atoms 𝓤) (W : Given
         use2 W (raw (ReadNext 𝓤 H A mem run .pre (to-read-next r u))) (goes-read-next r u) $
         calls-at ! fm (ReadNext 𝓤 H A mem run) known-next (to-read-next r u) (and-then ! (load ! (from ! (stop !)) (look ! 2 refl)) (no-more !)) (λ u′.
         use1 W (later (some (λ (t : NumberRead). ((‵ (flft κ q) ⊛ ‵ ftrue) ⊛ ‵ (S.the-row .own t (u′ ∷ []))) ⊛ raw (ensured 𝓤 H A read-next.ended (read-next.clauses 𝓤 H A mem run) (κ, tt) (r, tt) tt t)))) (id⊢ 𝓤 _) $ await ! tt $ pick ! (λ t.
-        split ! $ move ! (1 ∷ []) $ use1 W (raw (fact 𝓤 (t ≡ numberAt (now (r .src)) (r .at)))) (read-next-said r t) $ heard ! (t ≡ numberAt (now (r .src)) (r .at)) (λ e′. split ! $ move ! (1 ∷ []) $
+        split ! $ move ! (1 ∷ []) $ use1 W (raw (fact 𝓤 (saidNumber t ≡ numberAt (now (r .src)) (r .at)))) (read-next-said r t) $ heard ! (saidNumber t ≡ numberAt (now (r .src)) (r .at)) (λ e′. split ! $ move ! (1 ∷ []) $
         -- [the result; the token; what s owns; _3; …; _2; …; _1; …; room for _0; …]
         peeks ! S.the-row (Is S.the-row) (shows 𝓤 H A S.the-row) t (u′ ∷ []) (λ is′.
         land ! (from ! (stop !)) (init ! 9 refl (EL.lawful S.the-type S′.the-laws 𝓤 H A W tt .typed t _ is′ .0)) $

@@ -1,6 +1,7 @@
 -- `numbers::reading::read_next` meets its contract: a walk of its MIR, by hand. The struct is taken apart, and `read_number` is called on the slice and the position. All that the proof knows of `read_number` is that it meets its contract.
 -- The struct is Copy: what it owns is had twice. One copy is kept whole for the exit; the fields of the other are, in their order, what `read_number` asks, beside the lifetime's token, which comes back.
 use mathlib.Core.Path.{_≡_, refl}
+use Prim.Native.Nat.{ℕ}
 use mathlib.Core.List.{[], _∷_}
 use lib.Dec.{T as Holds}
 use lib.ListN.{length}
@@ -39,7 +40,8 @@ use denote.Triple.Table.{entered, cited}
 use denote.Triple.Walked.{says, Stays, stay-none, walkOf, goes-none, Walks, ends-at, walked, walk-meets}
 use denote.Exit.{yes}
 use denote.Triple.Clauses.{ensured, lasts}
-use Rattle.messages.specs.Numbers.{numberAt}
+use Rattle.strings.specs.Results.{Result}
+use Rattle.messages.specs.Numbers.{numberAt, saidNumber}
 use Rattle.messages.specs.declared.reading.Reader.{Reader}
 use Rattle.messages.specs.declared.numbers.NumberRead.{NumberRead}
 use Rattle.messages.proofs.reading.Reader as T
@@ -77,7 +79,7 @@ module _ {M : Type 1} (𝓤 : URA M) (H : Heap 𝓤) (A : Atoms 𝓤) (W : Given
   abbrev mach : Val
   mach = T′.lowered d
 
-  abbrev found : NumberRead
+  abbrev found : Result (ℕ × ℕ)
   found = numberAt (now (d .src)) (d .at)
 
   abbrev Post : Val → SProp 𝓤
@@ -106,10 +108,10 @@ module _ {M : Type 1} (𝓤 : URA M) (H : Heap 𝓤) (A : Atoms 𝓤) (W : Given
       move ! (2 ∷ 0 ∷ []) $ use2 W (raw (ReadNumber 𝓤 H A mem run .pre to)) asked $ frame ! $ done !)
 
   -- of the callee's `ensured`, the clause alone: it has no `&mut`, so what is said of last values is dropped
-  said : (r : NumberRead) → ent 𝓤 (ensured 𝓤 H A read-number.ended (read-number.clauses 𝓤 H A mem run) (κ, tt) (d .src, (d .at, tt)) tt r) (fact 𝓤 (r ≡ found))
-  said r = exE 𝓤 _ (λ ws. snd∗ 𝓤 (sem 𝓤 H A (lasts read-number.ended (κ, tt) (d .src, (d .at, tt)) ws)) (fact 𝓤 (r ≡ found)))
+  said : (r : NumberRead) → ent 𝓤 (ensured 𝓤 H A read-number.ended (read-number.clauses 𝓤 H A mem run) (κ, tt) (d .src, (d .at, tt)) tt r) (fact 𝓤 (saidNumber r ≡ found))
+  said r = exE 𝓤 _ (λ ws. snd∗ 𝓤 (sem 𝓤 H A (lasts read-number.ended (κ, tt) (d .src, (d .at, tt)) ws)) (fact 𝓤 (saidNumber r ≡ found)))
 
-  exits : (r : NumberRead) (u : Val) → r ≡ found → ent 𝓤 (⋆ 𝓤 H A (‵ (S.the-row .own r (u ∷ [])) ∷ (‵ (flft κ q) ⊛ ‵ ftrue) ∷ ‵ Own ∷ [])) (Post u)
+  exits : (r : NumberRead) (u : Val) → saidNumber r ≡ found → ent 𝓤 (⋆ 𝓤 H A (‵ (S.the-row .own r (u ∷ [])) ∷ (‵ (flft κ q) ⊛ ‵ ftrue) ∷ ‵ Own ∷ [])) (Post u)
   exits r u e =
       qed W (‵ (S.the-row .own r (u ∷ [])) ∷ (‵ (flft κ q) ⊛ ‵ ftrue) ∷ ‵ Own ∷ []) ∵
       suffices ! _ (ends-at 𝓤 H A read-next.ended stayed (read-next.clauses 𝓤 H A mem run) W (((κ, tt), (q, tt), tt, (d, tt), (mach ∷ [], tt)), tt) u r (tt, tt) (tt, tt)) $ says ! e $
@@ -126,7 +128,7 @@ module _ {M : Type 1} (𝓤 : URA M) (H : Heap 𝓤) (A : Atoms 𝓤) (W : Given
         move ! (8 ∷ []) $ use1 W (raw (ReadNumber 𝓤 H A mem run .pre to) ⊛ ‵ Own) apart $ split ! $
         calls-at ! fm (ReadNumber 𝓤 H A mem run) known to (and-then ! (load ! (from ! (stop !)) (look ! 4 refl)) (and-then ! (load ! (from ! (stop !)) (look ! 2 refl)) (no-more !))) (λ u.
         use1 W (later (some (λ (r : NumberRead). ((‵ (flft κ q) ⊛ ‵ ftrue) ⊛ ‵ (S.the-row .own r (u ∷ []))) ⊛ raw (ensured 𝓤 H A read-number.ended (read-number.clauses 𝓤 H A mem run) (κ, tt) (d .src, (d .at, tt)) tt r)))) (id⊢ 𝓤 _) $ await ! tt $ pick ! (λ r.
-        split ! $ move ! (1 ∷ []) $ use1 W (raw (fact 𝓤 (r ≡ found))) (said r) $ heard ! (r ≡ found) (λ e. split ! $ move ! (1 ∷ []) $
+        split ! $ move ! (1 ∷ []) $ use1 W (raw (fact 𝓤 (saidNumber r ≡ found))) (said r) $ heard ! (saidNumber r ≡ found) (λ e. split ! $ move ! (1 ∷ []) $
         -- [the result; the token; what the struct owns; _3; …; _2; …; _1; …; room for _0; …]
         peeks ! S.the-row (Is S.the-row) (shows 𝓤 H A S.the-row) r (u ∷ []) (λ is.
         land ! (from ! (stop !)) (init ! 9 refl (EL.lawful S.the-type S′.the-laws 𝓤 H A W tt .typed r _ is .0)) $
