@@ -4,11 +4,12 @@ use mathlib.Core.List.{List}
 use mathlib.Core.Option.{Option, none, some}
 use Prim.Native.Nat.{ℕ, _+_}
 use lib.Dec.{leb}
-use Rattle.strings.specs.Bits.{range}
+use Rattle.strings.specs.Bits.{range, maxBits}
 use Rattle.strings.specs.StringRule.{stringRule}
 use Rattle.strings.specs.SettingLimits.{anchorLimits, factorLimits}
 use Rattle.strings.specs.Refusals.{refusalNumber}
-use Rattle.codes.specs.Entries.{Answer, refusal, value, unless}
+use Rattle.strings.specs.Results.{Result, refusal, value, unless}
+use Rattle.strings.specs.declared.Refusal.the-variants.{BadSetting, BadString, OutOfRange}
 use Rattle.ends.specs.Anchors.{place}
 use Rattle.ends.specs.declared.anchors.Place.{Place}
 use Rattle.ends.specs.declared.anchors.Place.the-variants.{At, Nowhere}
@@ -27,18 +28,18 @@ anchorSettings m k = anchorLimits m && factorLimits k
 
 -- the copy's piece ends by the copy's bit count, the piece of p bits is no longer than a string, and the anchor's offset is not past p - m
 unfoldable pub anchorRange : (bits start q p s m : ℕ) → Bool
-anchorRange bits start q p s m = leb (start + q) bits && (leb p 65536 && leb (s + m) p)
+anchorRange bits start q p s m = leb (start + q) bits && (leb p maxBits && leb (s + m) p)
 
 -- 1; 2 for either string; 8; else the place, or none
-unfoldable pub anchorSearch : (y : List ℕ) (bits start q p s m k : ℕ) (a : List ℕ) → Answer (Option ℕ)
+unfoldable pub anchorSearch : (y : List ℕ) (bits start q p s m k : ℕ) (a : List ℕ) → Result (Option ℕ)
 anchorSearch y bits start q p s m k a =
-    unless (anchorSettings m k) 1 (
-    unless (stringRule y bits && stringRule a m) 2 (
-    unless (anchorRange bits start q p s m) 8 (
+    unless (anchorSettings m k) BadSetting (
+    unless (stringRule y bits && stringRule a m) BadString (
+    unless (anchorRange bits start q p s m) OutOfRange (
     value (place m k p s (range y start q) (range a 0 m)))))
 
 -- what each case of the code's answer says
-abbrev pub saidAnchor : AnchorAnswer → Answer (Option ℕ)
+abbrev pub saidAnchor : AnchorAnswer → Result (Option ℕ)
 saidAnchor (Placed r) = value (some r)
 saidAnchor NoPlace = value none
 saidAnchor (Refused e) = refusal (refusalNumber e)

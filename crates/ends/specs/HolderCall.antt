@@ -6,16 +6,12 @@ use lib.ListN.{length}
 use lib.Dec.{leb, ltb, eqb}
 use Rattle.strings.specs.Bits.{range}
 use Rattle.strings.specs.StringRule.{stringRule}
-use Rattle.strings.specs.declared.Refusal.{Refusal}
+use Rattle.strings.specs.Results.{Result, value, unless, andThen}
 use Rattle.strings.specs.declared.Refusal.the-variants.{BadString, OutOfTurn, BufferTooShort}
 use Rattle.messages.specs.declared.Kind.{Kind}
 use Rattle.messages.specs.declared.Kind.the-variants.{Open, Hash, Syndrome, Bits}
-use Rattle.messages.specs.declared.KindRead.{KindRead}
-use Rattle.messages.specs.declared.KindRead.the-variants.{Known, NoKind}
 use Rattle.messages.specs.declared.Question.{Question}
 use Rattle.messages.specs.declared.Question.the-variants.{AskOpen, AskHash, AskSyndrome, AskBits}
-use Rattle.messages.specs.declared.QuestionRead.{QuestionRead}
-use Rattle.messages.specs.declared.QuestionRead.the-variants.{Asked, NoQuestion}
 use Rattle.messages.specs.Kinds.{kindAt}
 use Rattle.messages.specs.Questions.{fieldsAt}
 use Rattle.messages.specs.Answers.{answerBytes}
@@ -27,14 +23,13 @@ use Rattle.ends.specs.Soundness.{mostAnswers, holderSound}
 abbrev pub freshHolder : Holder
 freshHolder = record { opened = false; bits = 0; h = 0; key = 0; answers = 0 }
 
--- what a call comes to: turned down, or the next state and the message that is sent
-pub data Heard : Type 0 where
-  declines : Refusal → Heard
-  replies : Holder → List ℕ → Heard
+-- what a call that is not turned down gives: the next state and the message that is sent
+pub record Reply : Type 0 where
+  pub state : Holder
+  pub message : List ℕ
 
-abbrev pub unlessHeard : Bool → Refusal → Heard → Heard
-unlessHeard true e go = go
-unlessHeard false e go = declines e
+abbrev pub replies : Holder → List ℕ → Result Reply
+replies next m = value (record { state = next; message = m })
 
 -- an opened holder is held to the bit count of its opening
 unfoldable pub sameBitCount : Holder → ℕ → Bool
@@ -55,20 +50,19 @@ afterAnswer st bits (AskSyndrome x p) = record { opened = st .opened; bits = st 
 afterAnswer st bits (AskBits x p) = record { opened = st .opened; bits = st .bits; h = st .h; key = st .key; answers = st .answers + 1 }
 
 -- a message for which there is room
-unfoldable pub sends : ℕ → Holder → List ℕ → Heard
-sends room next m = unlessHeard (leb (length m) room) BufferTooShort (replies next m)
+unfoldable pub sends : ℕ → Holder → List ℕ → Result Reply
+sends room next m = unless (leb (length m) room) BufferTooShort (replies next m)
 
-abbrev pub answersTo : Holder → List ℕ → (bits room : ℕ) → QuestionRead → Heard
-answersTo st x bits room (NoQuestion e) = declines e
-answersTo st x bits room (Asked q) = sends room (afterAnswer st bits q) (answerBytes (answer (st .h) (st .key) (range x 0 bits) q))
+abbrev pub answersTo : Holder → List ℕ → (bits room : ℕ) → Question → Result Reply
+answersTo st x bits room q = sends room (afterAnswer st bits q) (answerBytes (answer (st .h) (st .key) (range x 0 bits) q))
 
-abbrev pub ofKind : Holder → List ℕ → (bits : ℕ) → List ℕ → (room : ℕ) → KindRead → Heard
-ofKind st x bits msg room (NoKind e) = declines e
-ofKind st x bits msg room (Known k at) = unlessHeard (inTurn (st .opened) k) OutOfTurn (answersTo st x bits room (fieldsAt k msg at bits))
+-- a message of the kind k, whose fields begin at position at
+abbrev pub ofKind : Holder → List ℕ → (bits : ℕ) → List ℕ → (room : ℕ) → (k : Kind) (at : ℕ) → Result Reply
+ofKind st x bits msg room k at = unless (inTurn (st .opened) k) OutOfTurn (andThen (fieldsAt k msg at bits) (answersTo st x bits room))
 
 -- the call on the bytes x of X, its bit count, a message and a reply buffer of room bytes: 2; 3; then the message, with 3 for a known kind out of turn; 9
-unfoldable pub holderCall : Holder → (x : List ℕ) (bits : ℕ) (msg : List ℕ) (room : ℕ) → Heard
+unfoldable pub holderCall : Holder → (x : List ℕ) (bits : ℕ) (msg : List ℕ) (room : ℕ) → Result Reply
 holderCall st x bits msg room =
-    unlessHeard (stringRule x bits && sameBitCount st bits) BadString (
-    unlessHeard (holderSound st && ltb (st .answers) mostAnswers) OutOfTurn (
-    ofKind st x bits msg room (kindAt msg)))
+    unless (stringRule x bits && sameBitCount st bits) BadString (
+    unless (holderSound st && ltb (st .answers) mostAnswers) OutOfTurn (
+    andThen (kindAt msg) (λ (k, at). ofKind st x bits msg room k at)))

@@ -4,21 +4,21 @@ use Prim.Native.Nat.{ℕ}
 use lib.ListN.{length}
 use Rattle.strings.specs.Bits.{atFront}
 use Rattle.strings.specs.Refusals.{refusalNumber}
-use Rattle.codes.specs.Entries.{Answer, refusal, value}
+use Rattle.strings.specs.Results.{Result, refusal, value}
 use Rattle.ends.specs.declared.Holder.{Holder}
-use Rattle.ends.specs.HolderCall.{Heard, declines, replies}
+use Rattle.ends.specs.HolderCall.{Reply}
 use Rattle.ends.specs.declared.answering.HolderAnswer.{HolderAnswer}
 use Rattle.ends.specs.declared.answering.HolderAnswer.the-variants.{Replied, Refused}
 use Rattle.ends.specs.declared.answering.HolderOut.{HolderOut}
 
 -- a refusal's number alone or the length of the message sent; the next state; the bytes of the reply buffer
 pub record HolderSaid : Type 0 where
-  pub answer : Answer ℕ
+  pub answer : Result ℕ
   pub state : Holder
   pub reply : List ℕ
 
 -- what the code's answer says: a reply's length, or 01's number of the refusal
-abbrev pub answerSaid : HolderAnswer → Answer ℕ
+abbrev pub answerSaid : HolderAnswer → Result ℕ
 answerSaid (Replied size) = value size
 answerSaid (Refused e) = refusal (refusalNumber e)
 
@@ -26,6 +26,6 @@ abbrev pub saidHolder : HolderOut → List ℕ → HolderSaid
 saidHolder r reply = record { answer = answerSaid (r .answer); state = r .state; reply = reply }
 
 -- turned down: state and reply stay; else the message stands at the front of the reply, and later bytes stay
-abbrev pub leavesHolder : Holder → List ℕ → Heard → HolderSaid
-leavesHolder st reply (declines e) = record { answer = refusal (refusalNumber e); state = st; reply = reply }
-leavesHolder st reply (replies next m) = record { answer = value (length m); state = next; reply = atFront m reply }
+abbrev pub leavesHolder : Holder → List ℕ → Result Reply → HolderSaid
+leavesHolder st reply (refusal number) = record { answer = refusal number; state = st; reply = reply }
+leavesHolder st reply (value r) = record { answer = value (length (r .message)); state = r .state; reply = atFront (r .message) reply }

@@ -1,5 +1,5 @@
 -- The rebuilder's start and call (01, "The rebuilder" and "Why a call is turned down"): what the contracts of the code and demand 3 are stated with.
-use mathlib.Core.Bool.{Bool, true, false, cond, _&&_}
+use mathlib.Core.Bool.{Bool, cond, _&&_}
 use mathlib.Core.List.{List, [], _∷_}
 use mathlib.Core.Option.{Option, none, some}
 use Prim.Native.Nat.{ℕ, _+_, _-_, _*_, _/_}
@@ -8,14 +8,13 @@ use lib.Seq.{sets}
 use lib.Dec.{leb, ltb, eqb}
 use Rattle.strings.specs.Bits.{range, bytesFor, writeBits, cleared}
 use Rattle.strings.specs.StringRule.{stringRule}
-use Rattle.strings.specs.declared.Refusal.{Refusal}
+use Rattle.strings.specs.Results.{Result, refusal, value, unless, andThen}
+use Rattle.strings.specs.Refusals.{refusalNumber}
 use Rattle.strings.specs.declared.Refusal.the-variants.{BadSetting, BadString, OutOfTurn, BufferTooShort}
 use Rattle.messages.specs.declared.Question.{Question}
 use Rattle.messages.specs.declared.Question.the-variants.{AskOpen, AskHash, AskSyndrome, AskBits}
-use Rattle.messages.specs.declared.AnswerRead.{AnswerRead}
-use Rattle.messages.specs.declared.AnswerRead.the-variants.{IsSize, IsHash, IsSyndrome, IsBits, NoAnswer}
 use Rattle.messages.specs.Questions.{questionKind, questionBytes}
-use Rattle.messages.specs.Answers.{Answer, sizeAnswer, hashAnswer, syndromeAnswer, bitsAnswer, readAnswer}
+use Rattle.messages.specs.Answers.{Answer, readAnswer}
 use Rattle.strings.specs.declared.settings.Settings.{Settings}
 use Rattle.ends.specs.declared.How.the-variants.{ByAnchor, ByBits}
 use Rattle.ends.specs.declared.Row.{Row}
@@ -45,21 +44,20 @@ freshRebuilder S bits = record {
   pieces = replicate 32 noPiece;
 }
 
--- the start comes to: turned down, or a state and the question that is written
-pub data Started : Type 0 where
-  startDeclines : Refusal → Started
-  starts : Rebuilder → List ℕ → Started
+-- a start that is not turned down gives a state and the question that is written
+pub record Started : Type 0 where
+  pub state : Rebuilder
+  pub question : List ℕ
 
-abbrev pub unlessStarted : Bool → Refusal → Started → Started
-unlessStarted true e go = go
-unlessStarted false e go = startDeclines e
+abbrev pub starts : Rebuilder → List ℕ → Result Started
+starts st q = value (record { state = st; question = q })
 
 -- with settings, the bytes y of Y and their bit count, and a question buffer of room bytes: 1, 2, 9
-unfoldable pub rebuilderStart : Settings → (y : List ℕ) (bits room : ℕ) → Started
+unfoldable pub rebuilderStart : Settings → (y : List ℕ) (bits room : ℕ) → Result Started
 rebuilderStart S y bits room =
-    unlessStarted (withinLimits S) BadSetting (
-    unlessStarted (stringRule y bits) BadString (
-    unlessStarted (leb 8 room) BufferTooShort (
+    unless (withinLimits S) BadSetting (
+    unless (stringRule y bits) BadString (
+    unless (leb 8 room) BufferTooShort (
     starts (freshRebuilder S bits) (questionBytes (AskOpen (S .h) (S .key))))))
 
 -- ---- what an answer makes of state, string and sheet
@@ -180,14 +178,13 @@ unfoldable pub stepOf : Rebuilder → (y : List ℕ) → (size : ℕ) → Answer
 stepOf st y size a = stepAt (st .phase) st y size a
 
 -- ---- the call
--- what it comes to: turned down, or a step and the question that is written, which is empty at the finish
-pub data Taken : Type 0 where
-  refuses : Refusal → Taken
-  takes : Step → List ℕ → Taken
+-- a call that is not turned down gives a step and the question that is written, which is empty at the finish
+pub record Taken : Type 0 where
+  pub step : Step
+  pub question : List ℕ
 
-abbrev pub unlessTaken : Bool → Refusal → Taken → Taken
-unlessTaken true e go = go
-unlessTaken false e go = refuses e
+abbrev pub takes : Step → List ℕ → Result Taken
+takes k q = value (record { step = k; question = q })
 
 abbrev pub writtenQuestion : Option Question → List ℕ
 writtenQuestion none = []
@@ -218,27 +215,19 @@ bitsKnownAt AtWhole st a = st .n
 abbrev pub bitsKnown : Rebuilder → Answer → ℕ
 bitsKnown st a = bitsKnownAt (st .phase) st a
 
-abbrev pub given : Rebuilder → (y msg : List ℕ) → Rooms → Answer → Taken
+abbrev pub given : Rebuilder → (y msg : List ℕ) → Rooms → Answer → Result Taken
 given st y msg rooms a =
-    unlessTaken (roomFor st (bitsKnown st a) rooms) BufferTooShort (
+    unless (roomFor st (bitsKnown st a) rooms) BufferTooShort (
     takes (stepOf st y (length msg) a) (writtenQuestion (planned (stepOf st y (length msg) a .state))))
 
--- an answer that was read, to a question for len bits
-abbrev pub hears : Rebuilder → (y msg : List ℕ) → Rooms → (len : ℕ) → AnswerRead → Taken
-hears st y msg rooms len (IsSize n) = given st y msg rooms (sizeAnswer n)
-hears st y msg rooms len (IsHash v) = given st y msg rooms (hashAnswer v)
-hears st y msg rooms len (IsSyndrome a v) = given st y msg rooms (syndromeAnswer a v)
-hears st y msg rooms len (IsBits at) = given st y msg rooms (bitsAnswer (range msg (8 * at) len))
-hears st y msg rooms len (NoAnswer e) = refuses e
-
 -- finished: out of turn
-abbrev pub awaits : Rebuilder → (y msg : List ℕ) → Rooms → Option Question → Taken
-awaits st y msg rooms none = refuses OutOfTurn
-awaits st y msg rooms (some q) = hears st y msg rooms (questionLength q) (readAnswer (questionKind q) (questionLength q) (st .settings .h) msg)
+abbrev pub awaits : Rebuilder → (y msg : List ℕ) → Rooms → Option Question → Result Taken
+awaits st y msg rooms none = refusal (refusalNumber OutOfTurn)
+awaits st y msg rooms (some q) = andThen (readAnswer (questionKind q) (questionLength q) (st .settings .h) msg) (given st y msg rooms)
 
 -- with the bytes y of Y, their bit count and a message: 2; 3; then the message; 9
-unfoldable pub rebuilderCall : Rebuilder → (y : List ℕ) (bits : ℕ) (msg : List ℕ) → Rooms → Taken
+unfoldable pub rebuilderCall : Rebuilder → (y : List ℕ) (bits : ℕ) (msg : List ℕ) → Rooms → Result Taken
 rebuilderCall st y bits msg rooms =
-    unlessTaken (stringRule y bits && eqb (st .ybits) bits) BadString (
-    unlessTaken (sound st) OutOfTurn (
+    unless (stringRule y bits && eqb (st .ybits) bits) BadString (
+    unless (sound st) OutOfTurn (
     awaits st y msg rooms (planned st)))

@@ -8,26 +8,26 @@ use Rattle.ends.specs.declared.Stage.the-variants.{Hashing}
 use Rattle.ends.specs.declared.SheetChange.{SheetChange}
 use Rattle.ends.specs.declared.SheetChange.the-variants.{NoRow}
 use Rattle.ends.specs.States.{noPiece}
-use Rattle.ends.specs.RebuilderCall.{Started, startDeclines, starts, Taken, refuses, takes, stringAfter, Rooms}
+use Rattle.ends.specs.RebuilderCall.{Taken, stringAfter, Rooms, Started}
 use Rattle.ends.specs.declared.rebuilding.StartAnswer.{StartAnswer}
 use Rattle.ends.specs.declared.rebuilding.StartAnswer.the-variants.{Begun, NotBegun}
 use Rattle.ends.specs.declared.rebuilding.StartOut.{StartOut}
 use Rattle.ends.specs.declared.rebuilding.RebuilderAnswer.{RebuilderAnswer}
 use Rattle.ends.specs.declared.rebuilding.RebuilderAnswer.the-variants.{Asks, Finished, Refused}
 use Rattle.ends.specs.declared.rebuilding.RebuilderOut.{RebuilderOut}
-use Rattle.codes.specs.Entries.{Answer, refusal, value}
+use Rattle.strings.specs.Results.{Result, refusal, value}
 use Rattle.strings.specs.Bits.{atFront}
 use Rattle.strings.specs.Refusals.{refusalNumber}
 use mathlib.Core.Option.{Option, none, some}
 
 -- ---- the start
 -- what the code's answer says: the length of the opening question, or 01's number of the refusal
-abbrev pub startSaid : StartAnswer → Answer ℕ
+abbrev pub startSaid : StartAnswer → Result ℕ
 startSaid (Begun size) = value size
 startSaid (NotBegun e) = refusal (refusalNumber e)
 
 pub record StartSaid : Type 0 where
-  pub answer : Answer ℕ
+  pub answer : Result ℕ
   pub state : Rebuilder
   pub question : List ℕ
 
@@ -50,19 +50,19 @@ abbrev pub saidStart : StartOut → List ℕ → StartSaid
 saidStart r q = record { answer = startSaid (r .answer); state = r .state; question = q }
 
 -- turned down: the question buffer is as it was; begun: the opening question stands at its front
-abbrev pub leavesStart : List ℕ → Started → StartSaid
-leavesStart q (startDeclines e) = record { answer = refusal (refusalNumber e); state = noRebuilder; question = q }
-leavesStart q (starts st m) = record { answer = value (length m); state = st; question = atFront m q }
+abbrev pub leavesStart : List ℕ → Result Started → StartSaid
+leavesStart q (refusal number) = record { answer = refusal number; state = noRebuilder; question = q }
+leavesStart q (value b) = record { answer = value (length (b .question)); state = b .state; question = atFront (b .question) q }
 
 -- ---- the call
 -- what the code's answer says: the length of the next question, none at the finish, or 01's number of the refusal
-abbrev pub callSaid : RebuilderAnswer → Answer (Option ℕ)
+abbrev pub callSaid : RebuilderAnswer → Result (Option ℕ)
 callSaid (Asks size) = value (some size)
 callSaid Finished = value none
 callSaid (Refused e) = refusal (refusalNumber e)
 
 pub record RebuilderSaid : Type 0 where
-  pub answer : Answer (Option ℕ)
+  pub answer : Result (Option ℕ)
   pub state : Rebuilder
   pub sheet : SheetChange
   pub answered : ℕ
@@ -80,16 +80,16 @@ nextSize (b ∷ m) = some (length (b ∷ m))
 
 -- turned down: state, string and question buffer are as they were; taken: the step's state, its changes of string and sheet, and the question at the front of its buffer.
 -- The result carries the questions answered and the counted bytes too
-abbrev pub leavesRebuilder : Rebuilder → List ℕ → List ℕ → Taken → RebuilderSaid
-leavesRebuilder st s q (refuses e) = record { answer = refusal (refusalNumber e); state = st; sheet = NoRow; answered = st .answered; counted = st .counted; string = s; question = q }
-leavesRebuilder st s q (takes k m) = record {
-  answer = value (nextSize m);
-  state = k .state;
-  sheet = k .sheet;
-  answered = k .state .answered;
-  counted = k .state .counted;
-  string = stringAfter s (k .string);
-  question = atFront m q;
+abbrev pub leavesRebuilder : Rebuilder → List ℕ → List ℕ → Result Taken → RebuilderSaid
+leavesRebuilder st s q (refusal number) = record { answer = refusal number; state = st; sheet = NoRow; answered = st .answered; counted = st .counted; string = s; question = q }
+leavesRebuilder st s q (value t) = record {
+  answer = value (nextSize (t .question));
+  state = t .step .state;
+  sheet = t .step .sheet;
+  answered = t .step .state .answered;
+  counted = t .step .state .counted;
+  string = stringAfter s (t .step .string);
+  question = atFront (t .question) q;
 }
 
 -- the lent room of a call: bytes of string and question buffer, rows of the sheet

@@ -3,7 +3,8 @@ use mathlib.Core.List.{List}
 use Prim.Native.Nat.{ℕ}
 use Rattle.ends.specs.declared.Rebuilder.{Rebuilder}
 use Rattle.ends.specs.declared.Row.{Row}
-use Rattle.ends.specs.RebuilderCall.{Taken, refuses, takes, sheetAfter}
+use Rattle.ends.specs.RebuilderCall.{Taken, sheetAfter}
+use Rattle.strings.specs.Results.{Result, refusal, value}
 use Rattle.ends.specs.declared.rebuilding.RebuilderOut.{RebuilderOut}
 use Rattle.ends.specs.RebuilderOutcome.{RebuilderSaid, saidRebuilder, leavesRebuilder}
 
@@ -16,9 +17,9 @@ abbrev pub saidOnSheet : RebuilderOut → List Row → (string question : List �
 saidOnSheet r sh s q = record { said = saidRebuilder r s q; rows = sh }
 
 -- turned down: every row is as it was; taken: the step's change is done to them
-abbrev pub sheetLeft : List Row → Taken → List Row
-sheetLeft sh (refuses e) = sh
-sheetLeft sh (takes k m) = sheetAfter sh (k .sheet)
+abbrev pub sheetLeft : List Row → Result Taken → List Row
+sheetLeft sh (refusal number) = sh
+sheetLeft sh (value t) = sheetAfter sh (t .step .sheet)
 
-abbrev pub leavesOnSheet : Rebuilder → List Row → (string question : List ℕ) → Taken → SheetSaid
+abbrev pub leavesOnSheet : Rebuilder → List Row → (string question : List ℕ) → Result Taken → SheetSaid
 leavesOnSheet st sh s q t = record { said = leavesRebuilder st s q t; rows = sheetLeft sh t }

@@ -9,11 +9,11 @@ use lib.ListN.{length}
 use Rattle.messages.specs.Answers.{Answer, answerBytes}
 use Rattle.messages.specs.Questions.{questionBytes, readQuestion}
 use Rattle.messages.specs.declared.Question.{Question}
-use Rattle.messages.specs.declared.QuestionRead.the-variants.{Asked}
+use Rattle.strings.specs.Results.{Result, refusal, value}
 use Rattle.ends.specs.Anchors.{part}
 use Rattle.ends.specs.Claims.{isWait, At, Finished, Settled, total, rowsAtFront, zeroed}
-use Rattle.ends.specs.HolderCall.{Heard, declines, freshHolder, holderCall, replies}
-use Rattle.ends.specs.RebuilderCall.{Rooms, Step, Taken, rebuilderCall, rebuilderStart, refuses, sheetAfter, starts, stringAfter, takes, writtenQuestion}
+use Rattle.ends.specs.HolderCall.{Reply, freshHolder, holderCall, replies}
+use Rattle.ends.specs.RebuilderCall.{Rooms, Step, Taken, rebuilderCall, rebuilderStart, sheetAfter, starts, stringAfter, takes, writtenQuestion}
 use Rattle.ends.specs.Runs.{Honest, Run, copies, piecesOf, question, run, sheetOf, string, told, full}
 use Rattle.ends.specs.Segments.{asks, settled, waiting}
 use Rattle.ends.specs.declared.Holder.{Holder}
@@ -45,13 +45,14 @@ pub data World : Type 0 where
   world : Holder → Rebuilder → (string : List ℕ) → (sheet : List Row) → (question : List ℕ) → (heard taken : List (List ℕ)) → World
 
 -- each call gets the state that its end's last taken call returned; string and sheet are as the last taken call left them
-abbrev pub afterHeard : World → List ℕ → Heard → World
-afterHeard (world H r bs sh q hs ts) m (declines e) = world H r bs sh q hs ts
-afterHeard (world H r bs sh q hs ts) m (replies H′ b) = world H′ r bs sh q (m ∷ hs) ts
+abbrev pub afterHeard : World → List ℕ → Result Reply → World
+afterHeard (world H r bs sh q hs ts) m (refusal number) = world H r bs sh q hs ts
+afterHeard (world H r bs sh q hs ts) m (value a) = world (a .state) r bs sh q (m ∷ hs) ts
 
-abbrev pub afterTaken : World → List ℕ → Taken → World
-afterTaken (world H r bs sh q hs ts) m (refuses e) = world H r bs sh q hs ts
-afterTaken (world H r bs sh q hs ts) m (takes s q′) = world H (s .state) (stringAfter bs (s .string)) (sheetAfter sh (s .sheet)) q′ hs (m ∷ ts)
+abbrev pub afterTaken : World → List ℕ → Result Taken → World
+afterTaken (world H r bs sh q hs ts) m (refusal number) = world H r bs sh q hs ts
+afterTaken (world H r bs sh q hs ts) m (value t) =
+    world H (t .step .state) (stringAfter bs (t .step .string)) (sheetAfter sh (t .step .sheet)) (t .question) hs (m ∷ ts)
 
 abbrev pub roomsOf : Lent → List ℕ → List Row → Rooms
 roomsOf c bs sh = record { string = length bs; sheet = length sh; question = c .questionRoom }
@@ -81,7 +82,7 @@ answerTo c q = answerBytes (told (c .settings) (bitsOfX c) q)
 
 -- m is the holder's answer to the question with the bytes w
 abbrev pub IsAnswer : Lent → (w m : List ℕ) → Type 0
-IsAnswer c w m = (q : Question) × (readQuestion w (c .xbits) ≡ Asked q) × (m ≡ answerTo c q)
+IsAnswer c w m = (q : Question) × (readQuestion w (c .xbits) ≡ value q) × (m ≡ answerTo c q)
 
 -- "Lists in which the rebuilder takes any other message are left out"
 abbrev pub FairCall : Lent → World → Call → Type 0

@@ -6,8 +6,6 @@ ghost use lib.ListN.{length};
 ghost use Rattle.strings.specs.Bits.{range};
 ghost use Rattle.codes.specs.Syndrome.{syndrome};
 ghost use Rattle.codes.specs.Hash.{hash};
-ghost use Rattle.messages.specs.declared.KindRead.the-variants.{Known};
-ghost use Rattle.messages.specs.declared.QuestionRead.the-variants.{Asked};
 ghost use Rattle.messages.specs.Answers.{sizeAnswer, hashAnswer, syndromeAnswer, bitsAnswer, answerBytes};
 ghost use Rattle.ends.specs.HolderCall.{freshHolder, sameBitCount, inTurn, sends, answersTo, ofKind, holderCall};
 ghost use Rattle.ends.specs.Soundness.{mostAnswers};
@@ -138,7 +136,7 @@ fn answer_bits(st: Holder, x: &[u8], start: u32, len: u32, reply: &mut [u8]) -> 
 // The answer to a question that was read, for X of n bits.
 fn answer_question(st: Holder, x: &[u8], n: u32, q: Question, reply: &mut [u8]) -> HolderOut
     requires { ⌜ Ready st (now x) n q ⌝ }
-    ensures { λ r. ⌜ saidHolder r (now (reply .exit)) ≡ leavesHolder st (now (reply .entry)) (answersTo st (now (x .entry)) n (length (now (reply .entry))) (Asked q)) ⌝ }
+    ensures { λ r. ⌜ saidHolder r (now (reply .exit)) ≡ leavesHolder st (now (reply .entry)) (answersTo st (now (x .entry)) n (length (now (reply .entry))) q) ⌝ }
 {
     match q {
         Question::AskOpen(h, key) => answer_open(st, n, h, key, reply),
@@ -171,7 +169,7 @@ fn answer_kind(
     reply: &mut [u8],
 ) -> HolderOut
     requires { ⌜ Able st (now x) n ⌝ }
-    ensures { λ r. ⌜ saidHolder r (now (reply .exit)) ≡ leavesHolder st (now (reply .entry)) (ofKind st (now (x .entry)) n (now (msg .entry)) (length (now (reply .entry))) (Known kind at)) ⌝ }
+    ensures { λ r. ⌜ saidHolder r (now (reply .exit)) ≡ leavesHolder st (now (reply .entry)) (ofKind st (now (x .entry)) n (now (msg .entry)) (length (now (reply .entry))) kind at) ⌝ }
 {
     if !is_in_turn(st.opened, kind) {
         return refuse(st, Refusal::OutOfTurn);

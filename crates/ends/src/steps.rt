@@ -6,7 +6,6 @@ ghost use mathlib.Core.List.{List};
 ghost use Prim.Native.Nat.{ℕ, _+_, _*_, _≤_, _<_};
 ghost use lib.ListN.{length};
 ghost use Rattle.strings.specs.Bits.{range, bytesFor};
-ghost use Rattle.codes.specs.code.Edits.{Fits};
 ghost use Rattle.messages.specs.Answers.{sizeAnswer, hashAnswer, syndromeAnswer, bitsAnswer};
 ghost use Rattle.ends.specs.Segments.{howNumber, row};
 ghost use Rattle.ends.specs.States.{top, popped, restaged, retried, splitAt};
@@ -16,7 +15,7 @@ ghost use Rattle.ends.specs.declared.How.the-variants.{ByAnchor};
 ghost use Rattle.ends.specs.declared.Stage.the-variants.{Hashing, Anchor, AllBits};
 ghost use Rattle.ends.specs.RebuilderCall.{tallied, stepOf};
 ghost use Rattle.ends.specs.RebuilderOutcome.{saidRebuilder, leavesRebuilder};
-ghost use Rattle.ends.specs.code.RebuilderParts.{OutIs, Acting, Splitting, Lending, Retriable, RepairDue, AsksBits, bitsOfStage, repairHow, trialStep, stepTaken, WholeDue, Opening, BitsDue, dueLength};
+ghost use Rattle.ends.specs.code.RebuilderParts.{OutIs, Acting, Splitting, Lending, Retriable, RepairDue, AsksBits, bitsOfStage, repairHow, stepTaken, WholeDue, Opening, BitsDue, dueLength};
 use crate::Attempt;
 use crate::How;
 use crate::Phase;
@@ -30,8 +29,6 @@ use crate::rebuilding::RebuilderAnswer;
 use crate::rebuilding::RebuilderOut;
 use crate::state;
 use crate::state::Plan;
-use codes::Edit;
-use codes::Repair;
 use messages::WriteResult;
 
 // The number of how.
@@ -120,36 +117,7 @@ fn split(st: Rebuilder, size: u32, s: u32, r: u32, question: &mut [u8]) -> Rebui
     finish(next, SheetChange::AddRow(st.rows, line), question)
 }
 
-// A trial: the edited copy of the leftmost piece is written if its hash is v. Nothing is written before.
-fn try_edit(
-    st: Rebuilder,
-    y: &[u8],
-    e: Edit,
-    how: How,
-    v: u32,
-    size: u32,
-    string: &mut [u8],
-    question: &mut [u8],
-) -> RebuilderOut
-    requires { ⌜ Acting st size (length (now question)) ⌝ }
-    requires { ⌜ Lending st (now y) (now string) ⌝ }
-    requires { ⌜ Retriable (st .stage) × Fits e (top st .q) (top st .p) ⌝ }
-    ensures { λ r. ⌜ saidRebuilder r (now (string .exit)) (now (question .exit)) ≡ leavesRebuilder st (now (string .entry)) (now (question .entry)) (stepTaken (trialStep st (now (y .entry)) size v how e)) ⌝ }
-{
-    let t = state::top(st);
-    let x = t.x as usize;
-    let p = t.p as usize;
-    let start = t.y as usize;
-    let q = t.q as usize;
-    let g = codes::hash_edited(y, start, q, e, p, st.settings.key, st.settings.h);
-    if g != v {
-        return leave_waiting(st, size, question);
-    }
-    codes::copy_edited(y, start, q, e, p, string, x);
-    settle(st, size, how, question)
-}
-
-// The hash v of a piece whose copy has its length.
+// The hash v of a piece whose copy has its length: the copy is written if its hash is v.
 pub fn take_hash(
     st: Rebuilder,
     y: &[u8],
@@ -163,7 +131,14 @@ pub fn take_hash(
     requires { ⌜ (st .stage ≡ Hashing) × (top st .q ≡ top st .p) ⌝ }
     ensures { λ r. ⌜ saidRebuilder r (now (string .exit)) (now (question .exit)) ≡ leavesRebuilder st (now (string .entry)) (now (question .entry)) (stepTaken (stepOf st (now (y .entry)) size (hashAnswer v))) ⌝ }
 {
-    try_edit(st, y, Edit::Keep, How::ByHash, v, size, string, question)
+    let t = state::top(st);
+    let x = t.x as usize;
+    let p = t.p as usize;
+    let start = t.y as usize;
+    if codes::try_copy(y, start, p, v, st.settings.key, st.settings.h, string, x) {
+        return settle(st, size, How::ByHash, question);
+    }
+    leave_waiting(st, size, question)
 }
 
 // How a piece of p bits is repaired from a copy of q bits.
@@ -193,14 +168,26 @@ pub fn take_syndrome(
     ensures { λ r. ⌜ saidRebuilder r (now (string .exit)) (now (question .exit)) ≡ leavesRebuilder st (now (string .entry)) (now (question .entry)) (stepTaken (stepOf st (now (y .entry)) size (syndromeAnswer a v))) ⌝ }
 {
     let t = state::top(st);
+    let x = t.x as usize;
     let p = t.p as usize;
     let start = t.y as usize;
     let q = t.q as usize;
     let how = repair_how(t.p, t.q);
-    match codes::find_repair(y, start, q, p, a as usize) {
-        Repair::Nothing => leave_waiting(st, size, question),
-        Repair::Found(e) => try_edit(st, y, e, how, v, size, string, question),
+    if codes::try_repair(
+        y,
+        start,
+        q,
+        p,
+        a as usize,
+        v,
+        st.settings.key,
+        st.settings.h,
+        string,
+        x,
+    ) {
+        return settle(st, size, how, question);
     }
+    leave_waiting(st, size, question)
 }
 
 // All bits of a piece.

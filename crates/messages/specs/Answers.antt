@@ -13,7 +13,7 @@ use Rattle.messages.specs.declared.Kind.{Kind}
 use Rattle.messages.specs.declared.Kind.the-variants.{Open, Hash, Syndrome, Bits}
 use Rattle.messages.specs.declared.AnswerRead.{AnswerRead}
 use Rattle.messages.specs.declared.AnswerRead.the-variants.{IsSize, IsHash, IsSyndrome, IsBits, NoAnswer}
-use Rattle.messages.specs.Numbers.{number, numberAt}
+use Rattle.messages.specs.Numbers.{number, numberAt, twoAt}
 use Rattle.messages.specs.Kinds.{kindNumber}
 
 -- an answer's value: n; a hash; a syndrome and a hash; bits
@@ -46,12 +46,11 @@ hashAt h s at =
 
 unfoldable pub syndromeAt : ℕ → ℕ → List ℕ → ℕ → Result Answer
 syndromeAt len h s at =
-    andThen (numberAt s at) (λ (a, b).
-    andThen (numberAt s b) (λ (v, end).
+    andThen (twoAt s at) (λ (a, v, end).
     unless (leb (length s) end) TrailingBytes (
     unless (leb a len) OutOfRange (
     unless (ltb v (2 ^ h)) OutOfRange (
-    value (syndromeAnswer a v))))))
+    value (syndromeAnswer a v)))))
 
 -- exactly as many bytes as len bits take, and these a string of len bits: spare bits zero
 unfoldable pub bitsAt : ℕ → List ℕ → ℕ → Result Answer

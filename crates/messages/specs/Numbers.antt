@@ -5,10 +5,14 @@ use Prim.Native.Nat.{ℕ, zero, suc, _+_, _-_, _*_, _/_, _%_}
 use lib.ListN.{length, getD}
 use lib.Dec.{ltb, leb}
 use Rattle.strings.specs.Refusals.{refusalNumber}
-use Rattle.strings.specs.Results.{Result, refusal, value, unless}
+use Rattle.strings.specs.Results.{Result, refusal, value, unless, andThen}
 use Rattle.strings.specs.declared.Refusal.the-variants.{Truncated, BadNumber}
 use Rattle.messages.specs.declared.numbers.NumberRead.{NumberRead}
 use Rattle.messages.specs.declared.numbers.NumberRead.the-variants.{Value, NoNumber}
+use Rattle.messages.specs.declared.reading.TwoRead.{TwoRead}
+use Rattle.messages.specs.declared.reading.TwoRead.the-variants.{Two, NoTwo}
+use Rattle.messages.specs.declared.reading.ThreeRead.{ThreeRead}
+use Rattle.messages.specs.declared.reading.ThreeRead.the-variants.{Three, NoThree}
 
 -- the bytes of v in at most k + 1 groups
 unfoldable pub groups : ℕ → ℕ → List ℕ
@@ -40,7 +44,28 @@ numberAt s at =
     cond (ltb (getD s at 0) 128) (value (getD s at 0, at + 1)) (
     nextByte 3 s (at + 1) 128 (getD s at 0 - 128)))
 
--- what the code's answer says
+-- two numbers, one behind the other, and the position behind them; three
+unfoldable pub twoAt : List ℕ → ℕ → Result (ℕ × ℕ × ℕ)
+twoAt s at =
+    andThen (numberAt s at) (λ (a, next).
+    andThen (numberAt s next) (λ (b, end).
+    value (a, b, end)))
+
+unfoldable pub threeAt : List ℕ → ℕ → Result (ℕ × ℕ × ℕ × ℕ)
+threeAt s at =
+    andThen (twoAt s at) (λ (a, b, next).
+    andThen (numberAt s next) (λ (c, end).
+    value (a, b, c, end)))
+
+-- what the code's answers say
 abbrev pub saidNumber : NumberRead → Result (ℕ × ℕ)
 saidNumber (Value v at) = value (v, at)
 saidNumber (NoNumber e) = refusal (refusalNumber e)
+
+abbrev pub saidTwo : TwoRead → Result (ℕ × ℕ × ℕ)
+saidTwo (Two a b end) = value (a, b, end)
+saidTwo (NoTwo e) = refusal (refusalNumber e)
+
+abbrev pub saidThree : ThreeRead → Result (ℕ × ℕ × ℕ × ℕ)
+saidThree (Three a b c end) = value (a, b, c, end)
+saidThree (NoThree e) = refusal (refusalNumber e)

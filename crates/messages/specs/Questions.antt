@@ -13,7 +13,7 @@ use Rattle.messages.specs.declared.Question.{Question}
 use Rattle.messages.specs.declared.Question.the-variants.{AskOpen, AskHash, AskSyndrome, AskBits}
 use Rattle.messages.specs.declared.QuestionRead.{QuestionRead}
 use Rattle.messages.specs.declared.QuestionRead.the-variants.{Asked, NoQuestion}
-use Rattle.messages.specs.Numbers.{number, numberAt}
+use Rattle.messages.specs.Numbers.{number, twoAt, threeAt}
 use Rattle.messages.specs.Kinds.{kindNumber, kindAt}
 
 abbrev pub questionKind : Question → Kind
@@ -47,10 +47,8 @@ openingIn size version h key end =
 
 unfoldable pub openingAt : List ℕ → ℕ → Result Question
 openingAt s at =
-    andThen (numberAt s at) (λ (version, b).
-    andThen (numberAt s b) (λ (h, c).
-    andThen (numberAt s c) (λ (key, end).
-    openingIn (length s) version h key end)))
+    andThen (threeAt s at) (λ (version, h, key, end).
+    openingIn (length s) version h key end)
 
 -- a range question whose fields end at position end of size bytes: nothing may follow; 1 bit or more, ending by n
 abbrev pub rangeIn : (ℕ → ℕ → Question) → ℕ → ℕ → ℕ → ℕ → ℕ → Result Question
@@ -62,9 +60,8 @@ rangeIn ask size n start len end =
 
 unfoldable pub rangeAt : (ℕ → ℕ → Question) → List ℕ → ℕ → ℕ → Result Question
 rangeAt ask s at n =
-    andThen (numberAt s at) (λ (start, b).
-    andThen (numberAt s b) (λ (len, end).
-    rangeIn ask (length s) n start len end))
+    andThen (twoAt s at) (λ (start, len, end).
+    rangeIn ask (length s) n start len end)
 
 -- the rest of a question of a known kind, from position at on: 4 and 5 as met, then 7, then 8
 unfoldable pub fieldsAt : Kind → List ℕ → ℕ → ℕ → Result Question

@@ -12,7 +12,9 @@ use crate::WriteResult;
 use crate::kinds::kind_number;
 use crate::numbers::NumberRead;
 use crate::numbers::put_number;
+use crate::reading::TwoRead;
 use crate::reading::next_number;
+use crate::reading::two_numbers;
 use crate::writing::put_bits;
 use crate::writing::write_one;
 use crate::writing::write_two;
@@ -104,23 +106,20 @@ fn read_hash(h: u32, s: &[u8], at: usize) -> AnswerRead
 fn read_syndrome(len: u32, h: u32, s: &[u8], at: usize) -> AnswerRead
     ensures { λ r. ⌜ saidAnswer (now (s .entry)) len r ≡ syndromeAt len h (now (s .entry)) at ⌝ }
 {
-    match next_number(s, at) {
-        NumberRead::NoNumber(e) => AnswerRead::NoAnswer(e),
-        NumberRead::Value(a, b) => match next_number(s, b) {
-            NumberRead::NoNumber(e) => AnswerRead::NoAnswer(e),
-            NumberRead::Value(v, end) => {
-                if end < s.len() {
-                    return AnswerRead::NoAnswer(Refusal::TrailingBytes);
-                }
-                if len < a {
-                    return AnswerRead::NoAnswer(Refusal::OutOfRange);
-                }
-                if !is_hash(v, h) {
-                    return AnswerRead::NoAnswer(Refusal::OutOfRange);
-                }
-                AnswerRead::IsSyndrome(a, v)
+    match two_numbers(s, at) {
+        TwoRead::NoTwo(e) => AnswerRead::NoAnswer(e),
+        TwoRead::Two(a, v, end) => {
+            if end < s.len() {
+                return AnswerRead::NoAnswer(Refusal::TrailingBytes);
             }
-        },
+            if len < a {
+                return AnswerRead::NoAnswer(Refusal::OutOfRange);
+            }
+            if !is_hash(v, h) {
+                return AnswerRead::NoAnswer(Refusal::OutOfRange);
+            }
+            AnswerRead::IsSyndrome(a, v)
+        }
     }
 }
 

@@ -8,10 +8,12 @@ use crate::Question;
 use crate::QuestionRead;
 use crate::WriteResult;
 use crate::kinds::kind_number;
-use crate::numbers::NumberRead;
 use crate::numbers::number_size;
 use crate::numbers::put_number;
-use crate::reading::next_number;
+use crate::reading::ThreeRead;
+use crate::reading::TwoRead;
+use crate::reading::three_numbers;
+use crate::reading::two_numbers;
 use crate::writing::write_two;
 use strings::Refusal;
 
@@ -50,15 +52,9 @@ fn opening_in(size: usize, version: u32, h: u32, key: u32, end: usize) -> Questi
 fn read_opening(s: &[u8], at: usize) -> QuestionRead
     ensures { λ r. ⌜ saidQuestion r ≡ openingAt (now (s .entry)) at ⌝ }
 {
-    match next_number(s, at) {
-        NumberRead::NoNumber(e) => QuestionRead::NoQuestion(e),
-        NumberRead::Value(version, b) => match next_number(s, b) {
-            NumberRead::NoNumber(e) => QuestionRead::NoQuestion(e),
-            NumberRead::Value(h, c) => match next_number(s, c) {
-                NumberRead::NoNumber(e) => QuestionRead::NoQuestion(e),
-                NumberRead::Value(key, end) => opening_in(s.len(), version, h, key, end),
-            },
-        },
+    match three_numbers(s, at) {
+        ThreeRead::NoThree(e) => QuestionRead::NoQuestion(e),
+        ThreeRead::Three(version, h, key, end) => opening_in(s.len(), version, h, key, end),
     }
 }
 
@@ -85,12 +81,9 @@ fn range_in(kind: Kind, bytes: usize, n: u32, start: u32, len: u32, end: usize) 
 fn read_range(kind: Kind, s: &[u8], at: usize, n: u32) -> QuestionRead
     ensures { λ r. ⌜ saidQuestion r ≡ rangeAt (asking kind) (now (s .entry)) at n ⌝ }
 {
-    match next_number(s, at) {
-        NumberRead::NoNumber(e) => QuestionRead::NoQuestion(e),
-        NumberRead::Value(start, b) => match next_number(s, b) {
-            NumberRead::NoNumber(e) => QuestionRead::NoQuestion(e),
-            NumberRead::Value(len, end) => range_in(kind, s.len(), n, start, len, end),
-        },
+    match two_numbers(s, at) {
+        TwoRead::NoTwo(e) => QuestionRead::NoQuestion(e),
+        TwoRead::Two(start, len, end) => range_in(kind, s.len(), n, start, len, end),
     }
 }
 

@@ -1,9 +1,23 @@
 // The reader of 01, "Both ends read through one reader that holds a message and how far it has got". It only holds the two; the work
-// is done by `read_number`, on a slice and a position. `next_number` makes a reader for each number and reads through it.
+// is done by `read_number`, on a slice and a position. Questions and answers are read through the last three functions here: each makes
+// one reader and moves it on from number to number. Their parameters are plain, so that the functions above need no proof by hand.
 ghost use mathlib.Core.Path.{_≡_};
-ghost use Rattle.messages.specs.Numbers.{numberAt, saidNumber};
+ghost use Rattle.messages.specs.Numbers.{numberAt, saidNumber, twoAt, saidTwo, threeAt, saidThree};
+ghost use Rattle.messages.specs.code.Reading.{behindNumber, twoOf, threeOf};
 use crate::numbers::NumberRead;
 use crate::numbers::read_number;
+use strings::Refusal;
+
+// What reading two numbers gave, and three: the numbers and the position behind the last, or why not.
+pub enum TwoRead {
+    Two(u32, u32, usize),
+    NoTwo(Refusal),
+}
+
+pub enum ThreeRead {
+    Three(u32, u32, u32, usize),
+    NoThree(Refusal),
+}
 
 // A reader: `src` is the message, `at` is how far it has got, as the index of the first byte that is not read yet.
 pub struct Reader<'a> {
@@ -18,17 +32,85 @@ pub fn reader_at<'a>(src: &'a [u8], at: usize) -> Reader<'a>
     Reader { src, at }
 }
 
-// The number at which a reader stands. Its answer has the position behind the number, where the next reader begins.
+// The number at which a reader stands.
 pub fn read_next<'a>(r: Reader<'a>) -> NumberRead
     ensures { λ n. ⌜ saidNumber n ≡ numberAt (now (r .entry .src)) (r .entry .at) ⌝ }
 {
     read_number(r.src, r.at)
 }
 
-// The next number of a message from position `at` on, read through a reader. Questions and answers read every number through this
-// function; its parameters are plain, so the functions above it need no proof by hand.
+// How far a reader has got that stood at `at` and read `n`.
+fn behind(n: NumberRead, at: usize) -> usize
+    ensures { λ r. ⌜ r ≡ behindNumber n at ⌝ }
+{
+    match n {
+        NumberRead::NoNumber(e) => at,
+        NumberRead::Value(v, end) => end,
+    }
+}
+
+// A reader moved on behind `n`, which it has read. Where that was no number it stays, and finds none again: so the functions below read
+// on without a test in between, and what they have read is looked at in the end.
+pub fn moved<'a>(r: Reader<'a>, n: NumberRead) -> Reader<'a>
+    ensures { λ q. ⌜ (q .src ≡ r .entry .src) × (q .at ≡ behindNumber n (r .entry .at)) ⌝ }
+{
+    Reader {
+        src: r.src,
+        at: behind(n, r.at),
+    }
+}
+
+// Two numbers from two readings, one behind the other.
+fn two_of(first: NumberRead, second: NumberRead) -> TwoRead
+    ensures { λ r. ⌜ saidTwo r ≡ twoOf (saidNumber first) (saidNumber second) ⌝ }
+{
+    match first {
+        NumberRead::NoNumber(e) => TwoRead::NoTwo(e),
+        NumberRead::Value(a, next) => match second {
+            NumberRead::NoNumber(e) => TwoRead::NoTwo(e),
+            NumberRead::Value(b, end) => TwoRead::Two(a, b, end),
+        },
+    }
+}
+
+// Three numbers from three readings.
+fn three_of(first: NumberRead, second: NumberRead, third: NumberRead) -> ThreeRead
+    ensures { λ r. ⌜ saidThree r ≡ threeOf (saidNumber first) (saidNumber second) (saidNumber third) ⌝ }
+{
+    match two_of(first, second) {
+        TwoRead::NoTwo(e) => ThreeRead::NoThree(e),
+        TwoRead::Two(a, b, next) => match third {
+            NumberRead::NoNumber(e) => ThreeRead::NoThree(e),
+            NumberRead::Value(c, end) => ThreeRead::Three(a, b, c, end),
+        },
+    }
+}
+
+// The number at position `at` of a message.
 pub fn next_number(s: &[u8], at: usize) -> NumberRead
     ensures { λ r. ⌜ saidNumber r ≡ numberAt (now (s .entry)) at ⌝ }
 {
     read_next(reader_at(s, at))
+}
+
+// Two numbers from position `at` on.
+pub fn two_numbers(s: &[u8], at: usize) -> TwoRead
+    ensures { λ r. ⌜ saidTwo r ≡ twoAt (now (s .entry)) at ⌝ }
+{
+    let start = reader_at(s, at);
+    let first = read_next(start);
+    let second = read_next(moved(start, first));
+    two_of(first, second)
+}
+
+// Three numbers from position `at` on.
+pub fn three_numbers(s: &[u8], at: usize) -> ThreeRead
+    ensures { λ r. ⌜ saidThree r ≡ threeAt (now (s .entry)) at ⌝ }
+{
+    let start = reader_at(s, at);
+    let first = read_next(start);
+    let on = moved(start, first);
+    let second = read_next(on);
+    let third = read_next(moved(on, second));
+    three_of(first, second, third)
 }

@@ -35,11 +35,6 @@ or-cases : (a b : Bool) → a || b ≡ true → (a ≡ true) ⊎ (b ≡ true)
 or-cases true b e = inl refl
 or-cases false b e = inr e
 
--- to prove P of what a call with a test answers
-pub by-unless : {A : Type 0} (P : Result A → Type 0) (t : Bool) (e : Refusal) {go : Result A} → P (refusal (refusalNumber e)) → (t ≡ true → P go) → P (unless t e go)
-by-unless P true e f g = g refl
-by-unless P false e f g = f
-
 -- a whole string is a range
 pub whole-part : (s : List ℕ) (bits : ℕ) → stringRule s bits ≡ true → Part s 0 bits
 whole-part s bits e =

@@ -16,8 +16,10 @@ use Rattle.strings.specs.StringRule.{stringRule}
 use Rattle.strings.specs.laws.RuleLaws.{rule-is}
 use Rattle.strings.specs.laws.RangeLaws.{range-length, range-at, range-equal, range-part, same-refl, same-is}
 use Rattle.strings.specs.laws.Tests.{true-false, and-left, and-right}
-use Rattle.codes.specs.Entries.{Answer, refusal, value}
-use Rattle.codes.specs.laws.EntryLaws.{by-unless}
+use Rattle.strings.specs.Results.{Result, refusal, value}
+use Rattle.strings.specs.Refusals.{refusalNumber}
+use Rattle.strings.specs.declared.Refusal.the-variants.{BadSetting, BadString, OutOfRange}
+use Rattle.strings.specs.laws.ResultLaws.{by-unless}
 use Rattle.ends.specs.Anchors.{isqrt, distance, away, part, fits, Best, place}
 use Rattle.ends.specs.laws.AnchorLaws.{place-best}
 use Rattle.ends.specs.declared.anchors.Place.{Place}
@@ -325,28 +327,28 @@ module _ (bits start q p s m : ℕ) (piece : Bool) (e : piece ≡ leb (start + q
 
 -- ---- the host's call: what holds behind the tests, and its returns
 -- a refusal's number is at most 9, and a place is one of a string
-abbrev pub AnswerMost : Answer (Option ℕ) → Type 0
+abbrev pub AnswerMost : Result (Option ℕ) → Type 0
 AnswerMost (refusal e) = e ≤ 9
 AnswerMost (value none) = Unit {0}
 AnswerMost (value (some r)) = r ≤ maxBits
 
 module _ (y : List ℕ) (bits start q p s m k : ℕ) (a : List ℕ) where
-  pub bad-setting : anchorSettings m k ≡ false → refusal 1 ≡ anchorSearch y bits start q p s m k a
+  pub bad-setting : anchorSettings m k ≡ false → refusal (refusalNumber BadSetting) ≡ anchorSearch y bits start q p s m k a
   unfolding anchorSearch
   bad-setting e = rw e refl
 
   module _ (e : anchorSettings m k ≡ true) where
-    pub bad-copy : stringRule y bits ≡ false → refusal 2 ≡ anchorSearch y bits start q p s m k a
+    pub bad-copy : stringRule y bits ≡ false → refusal (refusalNumber BadString) ≡ anchorSearch y bits start q p s m k a
     unfolding anchorSearch
     bad-copy f = rw (e, f) refl
 
     module _ (f : stringRule y bits ≡ true) where
-      pub bad-anchor : stringRule a m ≡ false → refusal 2 ≡ anchorSearch y bits start q p s m k a
+      pub bad-anchor : stringRule a m ≡ false → refusal (refusalNumber BadString) ≡ anchorSearch y bits start q p s m k a
       unfolding anchorSearch
       bad-anchor g = rw (e, f, g) refl
 
       module _ (g : stringRule a m ≡ true) where
-        pub out-of-range : anchorRange bits start q p s m ≡ false → refusal 8 ≡ anchorSearch y bits start q p s m k a
+        pub out-of-range : anchorRange bits start q p s m ≡ false → refusal (refusalNumber OutOfRange) ≡ anchorSearch y bits start q p s m k a
         unfolding anchorSearch
         out-of-range h = rw (e, f, g, h) refl
 
@@ -400,9 +402,9 @@ module _ (y : List ℕ) (bits start q p s m k : ℕ) (a : List ℕ) where
   pub search-most : AnswerMost (anchorSearch y bits start q p s m k a)
   unfolding anchorSearch
   search-most =
-      by-unless AnswerMost (anchorSettings m k) 1 (omega arith) (λ e.
-      by-unless AnswerMost (stringRule y bits && stringRule a m) 2 (omega arith) (λ f.
-      by-unless AnswerMost (anchorRange bits start q p s m) 8 (omega arith) (λ h.
+      by-unless AnswerMost (anchorSettings m k) BadSetting (omega arith) (λ e.
+      by-unless AnswerMost (stringRule y bits && stringRule a m) BadString (omega arith) (λ f.
+      by-unless AnswerMost (anchorRange bits start q p s m) OutOfRange (omega arith) (λ h.
       go (tested-ready e (and-left (stringRule y bits) (stringRule a m) f) (and-right (stringRule y bits) (stringRule a m) f) h .few) (place m k p s (range y start q) (range a 0 m)) (best-of y start q p s m k a 0))))
     where
       go : start + q ≤ maxBits → (o : Option ℕ) → Best (fits m k p s (range y start q) (range a 0 m)) (away p q s) 0 (q + 1 - m) o → AnswerMost (value o)

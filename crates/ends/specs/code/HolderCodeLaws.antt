@@ -9,6 +9,9 @@ use native.Mathlib.Decide.{decLt}
 use lib.ListN.{length}
 use lib.Dec.{leb, ltb, eqb}
 use borrow.Author.Tests.{lt-leb, le-leb, leb-true, ltb-true, eqb-true}
+use Rattle.messages.specs.declared.WriteResult.the-variants.{Written, TooShort}
+use Rattle.strings.specs.Refusals.{refusalNumber}
+use Rattle.strings.specs.Results.{Result, refusal, value}
 use Rattle.strings.specs.Bits.{range, maxBits}
 use Rattle.strings.specs.StringRule.{stringRule}
 use Rattle.strings.specs.laws.RangeLaws.{range-length, range-part}
@@ -21,45 +24,55 @@ use Rattle.codes.specs.laws.SyndromeLaws.{syndrome-most}
 use Rattle.codes.specs.Hash.{hash}
 use Rattle.messages.specs.declared.Kind.{Kind}
 use Rattle.messages.specs.declared.KindRead.{KindRead}
-use Rattle.messages.specs.declared.KindRead.the-variants.{Known}
+use Rattle.messages.specs.declared.KindRead.the-variants.{Known, NoKind}
 use Rattle.messages.specs.declared.Question.{Question}
 use Rattle.messages.specs.declared.Question.the-variants.{AskOpen, AskHash, AskSyndrome, AskBits}
 use Rattle.messages.specs.declared.QuestionRead.{QuestionRead}
-use Rattle.messages.specs.declared.QuestionRead.the-variants.{Asked}
+use Rattle.messages.specs.declared.QuestionRead.the-variants.{Asked, NoQuestion}
 use Rattle.messages.specs.declared.WriteResult.{WriteResult}
-use Rattle.messages.specs.Kinds.{kindAt}
-use Rattle.messages.specs.Questions.{fieldsAt}
+use Rattle.messages.specs.Kinds.{kindAt, saidKind}
+use Rattle.messages.specs.Questions.{fieldsAt, saidQuestion}
 use Rattle.messages.specs.laws.QuestionLaws.{Within, RangeWithin, fields-within}
 use Rattle.messages.specs.Answers.{Answer, sizeAnswer, hashAnswer, syndromeAnswer, bitsAnswer, answerBytes}
-use Rattle.messages.specs.Writing.{Outcome, leaves, putFront}
+use Rattle.messages.specs.Writing.{putFront, Wrote, saidWrite}
 use Rattle.messages.specs.laws.WritingLaws.{put-fits, put-short}
 use Rattle.ends.specs.declared.Holder.{Holder}
 use Rattle.ends.specs.Anchors.{part}
 use Rattle.strings.specs.SettingLimits.{between}
 use Rattle.ends.specs.Soundness.{holderSound, mostAnswers}
-use Rattle.ends.specs.HolderCall.{Heard, declines, sameBitCount, inTurn, sends, answersTo, ofKind, holderCall}
+use Rattle.ends.specs.HolderCall.{sameBitCount, inTurn, sends, answersTo, ofKind, holderCall, Reply}
 use Rattle.ends.specs.declared.answering.HolderOut.{HolderOut}
 use Rattle.ends.specs.HolderOutcome.{HolderSaid, saidHolder, leavesHolder}
 use Rattle.ends.specs.code.HolderParts.{refused, written, openedWith, oneMore, Answers, Able, Ready}
 
 -- ---- a call that is turned down, and one that writes its answer
-pub refused-said : {st : Holder} {e : Refusal} {r : HolderOut} (reply : List ℕ) {heard : Heard} → r ≡ refused st e → heard ≡ declines e → saidHolder r reply ≡ leavesHolder st reply heard
+pub refused-said : {st : Holder} {e : Refusal} {r : HolderOut} (reply : List ℕ) {heard : Result Reply} → r ≡ refused st e → heard ≡ refusal (refusalNumber e) → saidHolder r reply ≡ leavesHolder st reply heard
 refused-said {st} reply f g = ap (λ (o : HolderOut). saidHolder o reply) f ∙ ap (leavesHolder st reply) (sym g)
 
-abbrev outcomeSaid : (st next : Holder) → Outcome → HolderSaid
-outcomeSaid st next (leaves w buf) = saidHolder (written st next w) buf
+-- by what writing the answer left: the state becomes `next` if there was room
+abbrev stateFor : (st next : Holder) → Result ℕ → Holder
+stateFor st next (refusal number) = st
+stateFor st next (value size) = next
 
-put-sends : (st next : Holder) (m buf : List ℕ) → Dec (length buf < length m) → outcomeSaid st next (putFront m buf) ≡ leavesHolder st buf (sends (length buf) next m)
+abbrev wroteSaid : (st next : Holder) → Wrote → HolderSaid
+wroteSaid st next w = record { answer = w .answer; state = stateFor st next (w .answer); reply = w .buffer }
+
+said-wrote : (st next : Holder) (buf : List ℕ) (w : WriteResult) → saidHolder (written st next w) buf ≡ wroteSaid st next (saidWrite w buf)
+said-wrote st next buf (Written size) = refl
+said-wrote st next buf TooShort = refl
+
+put-sends : (st next : Holder) (m buf : List ℕ) → Dec (length buf < length m) → wroteSaid st next (putFront m buf) ≡ leavesHolder st buf (sends (length buf) next m)
 unfolding sends
-put-sends st next m buf (yes h) = ap (outcomeSaid st next) (sym (put-short m buf h)) ∙ rw (lt-leb (length m) (length buf) h) refl
+put-sends st next m buf (yes h) = ap (wroteSaid st next) (sym (put-short m buf h)) ∙ rw (lt-leb (length m) (length buf) h) refl
 put-sends st next m buf (no h) =
     let l : length m ≤ length buf = omega arith in
-    ap (outcomeSaid st next) (put-fits m buf l) ∙ rw (le-leb (length m) (length buf) l) refl
+    ap (wroteSaid st next) (put-fits m buf l) ∙ rw (le-leb (length m) (length buf) l) refl
 
-pub written-said : (st next next′ : Holder) (m m′ buf after : List ℕ) (w : WriteResult) {r : HolderOut} → r ≡ written st next w → leaves w after ≡ putFront m buf → next ≡ next′ → m ≡ m′ → saidHolder r after ≡ leavesHolder st buf (sends (length buf) next′ m′)
+pub written-said : (st next next′ : Holder) (m m′ buf after : List ℕ) (w : WriteResult) {r : HolderOut} → r ≡ written st next w → saidWrite w after ≡ putFront m buf → next ≡ next′ → m ≡ m′ → saidHolder r after ≡ leavesHolder st buf (sends (length buf) next′ m′)
 written-said st next next′ m m′ buf after w e f g k =
     ap (λ (o : HolderOut). saidHolder o after) e
-    ∙ ap (outcomeSaid st next) f
+    ∙ said-wrote st next after w
+    ∙ ap (wroteSaid st next) f
     ∙ put-sends st next m buf (decLt (length buf) (length m))
     ∙ ap₂ (λ (s : Holder) (l : List ℕ). leavesHolder st buf (sends (length buf) s l)) g k
 
@@ -106,36 +119,36 @@ module _ (st : Holder) (x : List ℕ) (n : ℕ) where
   module _ (reply : List ℕ) {q : Question} {s : HolderSaid} where
     pub open-asked : {h key : ℕ} → q ≡ AskOpen h key
         → s ≡ leavesHolder st reply (sends (length reply) (openedWith n h key) (answerBytes (sizeAnswer n)))
-        → s ≡ leavesHolder st reply (answersTo st x n (length reply) (Asked q))
+        → s ≡ leavesHolder st reply (answersTo st x n (length reply) q)
     open-asked {h} {key} e f =
         f ∙ ap (λ (k : ℕ). leavesHolder st reply (sends (length reply) (openedWith n h key) (answerBytes (sizeAnswer k)))) (sym (range-length x 0 n))
-        ∙ ap (λ (p : Question). leavesHolder st reply (answersTo st x n (length reply) (Asked p))) (sym e)
+        ∙ ap (λ (p : Question). leavesHolder st reply (answersTo st x n (length reply) p)) (sym e)
 
     -- the part of X's bits that a question names is a range of X's bytes
     range-asked : (answered : List Bool → Answer) (start len : ℕ) {q′ : Question} → RangeWithin n start len → q ≡ q′
-        → answersTo st x n (length reply) (Asked q′) ≡ sends (length reply) (oneMore st) (answerBytes (answered (part (range x 0 n) start len)))
+        → answersTo st x n (length reply) q′ ≡ sends (length reply) (oneMore st) (answerBytes (answered (part (range x 0 n) start len)))
         → s ≡ leavesHolder st reply (sends (length reply) (oneMore st) (answerBytes (answered (range x start len))))
-        → s ≡ leavesHolder st reply (answersTo st x n (length reply) (Asked q))
+        → s ≡ leavesHolder st reply (answersTo st x n (length reply) q)
     range-asked answered start len w e g f =
         let there : range x start len ≡ part (range x 0 n) start len = sym (range-part x 0 n start len (w .ends) ∙ ap (λ (k : ℕ). range x k len) (zero-add start)) in
         f ∙ ap (λ (l : List Bool). leavesHolder st reply (sends (length reply) (oneMore st) (answerBytes (answered l)))) there
         ∙ ap (leavesHolder st reply) (sym g)
-        ∙ ap (λ (p : Question). leavesHolder st reply (answersTo st x n (length reply) (Asked p))) (sym e)
+        ∙ ap (λ (p : Question). leavesHolder st reply (answersTo st x n (length reply) p)) (sym e)
 
     module _ (g : Ready st x n q) {start len : ℕ} where
       pub hash-asked : q ≡ AskHash start len
           → s ≡ leavesHolder st reply (sends (length reply) (oneMore st) (answerBytes (hashAnswer (hash (st .h) (st .key) (range x start len)))))
-          → s ≡ leavesHolder st reply (answersTo st x n (length reply) (Asked q))
+          → s ≡ leavesHolder st reply (answersTo st x n (length reply) q)
       hash-asked e f = range-asked (λ l. hashAnswer (hash (st .h) (st .key) l)) start len (ready-within g e) e refl f
 
       pub syndrome-asked : q ≡ AskSyndrome start len
           → s ≡ leavesHolder st reply (sends (length reply) (oneMore st) (answerBytes (syndromeAnswer (syndrome (range x start len)) (hash (st .h) (st .key) (range x start len)))))
-          → s ≡ leavesHolder st reply (answersTo st x n (length reply) (Asked q))
+          → s ≡ leavesHolder st reply (answersTo st x n (length reply) q)
       syndrome-asked e f = range-asked (λ l. syndromeAnswer (syndrome l) (hash (st .h) (st .key) l)) start len (ready-within g e) e refl f
 
       pub bits-asked : q ≡ AskBits start len
           → s ≡ leavesHolder st reply (sends (length reply) (oneMore st) (answerBytes (bitsAnswer (range x start len))))
-          → s ≡ leavesHolder st reply (answersTo st x n (length reply) (Asked q))
+          → s ≡ leavesHolder st reply (answersTo st x n (length reply) q)
       bits-asked e f = range-asked bitsAnswer start len (ready-within g e) e refl f
 
 -- ---- the call, test by test
@@ -148,29 +161,40 @@ module _ (st : Holder) (x : List ℕ) (bits : ℕ) where
   }
 
   module _ (msg : List ℕ) (room : ℕ) where
-    pub call-bad-string : stringRule x bits && sameBitCount st bits ≡ false → holderCall st x bits msg room ≡ declines BadString
+    pub call-bad-string : stringRule x bits && sameBitCount st bits ≡ false → holderCall st x bits msg room ≡ refusal (refusalNumber BadString)
     unfolding holderCall
     call-bad-string a = rw a refl
 
-    pub call-out-of-turn : stringRule x bits && sameBitCount st bits ≡ true → holderSound st && ltb (st .answers) mostAnswers ≡ false → holderCall st x bits msg room ≡ declines OutOfTurn
+    pub call-out-of-turn : stringRule x bits && sameBitCount st bits ≡ true → holderSound st && ltb (st .answers) mostAnswers ≡ false → holderCall st x bits msg room ≡ refusal (refusalNumber OutOfTurn)
     unfolding holderCall
     call-out-of-turn a b = rw (a, b) refl
 
-    pub call-kind : {k k′ : KindRead} → stringRule x bits && sameBitCount st bits ≡ true → holderSound st && ltb (st .answers) mostAnswers ≡ true → k ≡ kindAt msg → k ≡ k′ → holderCall st x bits msg room ≡ ofKind st x bits msg room k′
+    -- the kind was not read, or was
+    pub call-no-kind : {k : KindRead} {e : Refusal} → stringRule x bits && sameBitCount st bits ≡ true → holderSound st && ltb (st .answers) mostAnswers ≡ true
+        → saidKind k ≡ kindAt msg → k ≡ NoKind e → holderCall st x bits msg room ≡ refusal (refusalNumber e)
+    unfolding holderCall
+    call-no-kind a b e f = rw (a, b, ← e, f) refl
+
+    pub call-kind : {k : KindRead} {kind : Kind} {at : ℕ} → stringRule x bits && sameBitCount st bits ≡ true → holderSound st && ltb (st .answers) mostAnswers ≡ true
+        → saidKind k ≡ kindAt msg → k ≡ Known kind at → holderCall st x bits msg room ≡ ofKind st x bits msg room kind at
     unfolding holderCall
     call-kind a b e f = rw (a, b, ← e, f) refl
 
     module _ (k : Kind) (at : ℕ) where
-      pub kind-out-of-turn : inTurn (st .opened) k ≡ false → ofKind st x bits msg room (Known k at) ≡ declines OutOfTurn
+      pub kind-out-of-turn : inTurn (st .opened) k ≡ false → ofKind st x bits msg room k at ≡ refusal (refusalNumber OutOfTurn)
       kind-out-of-turn t = rw t refl
 
-      pub kind-fields : {q q′ : QuestionRead} → inTurn (st .opened) k ≡ true → q ≡ fieldsAt k msg at bits → q ≡ q′ → ofKind st x bits msg room (Known k at) ≡ answersTo st x bits room q′
+      -- so were the fields
+      pub kind-no-fields : {q : QuestionRead} {e : Refusal} → inTurn (st .opened) k ≡ true → saidQuestion q ≡ fieldsAt k msg at bits → q ≡ NoQuestion e → ofKind st x bits msg room k at ≡ refusal (refusalNumber e)
+      kind-no-fields t e f = rw (t, ← e, f) refl
+
+      pub kind-fields : {q : QuestionRead} {q′ : Question} → inTurn (st .opened) k ≡ true → saidQuestion q ≡ fieldsAt k msg at bits → q ≡ Asked q′ → ofKind st x bits msg room k at ≡ answersTo st x bits room q′
       kind-fields t e f = rw (t, ← e, f) refl
 
   module _ (msg : List ℕ) (k : Kind) (at : ℕ) {p : QuestionRead} {q : Question} where
-    pub able-ready : Able st x bits → p ≡ fieldsAt k msg at bits → p ≡ Asked q → Ready st x bits q
-    able-ready a e f = record { able = a; within = fields-within k msg at bits q (sym e ∙ f) .1 }
+    pub able-ready : Able st x bits → saidQuestion p ≡ fieldsAt k msg at bits → p ≡ Asked q → Ready st x bits q
+    able-ready a e f = record { able = a; within = fields-within k msg at bits q (sym e ∙ ap saidQuestion f) .1 }
 
 -- what is said of a call is what is said of the part that it comes to
-pub said-by : {s : HolderSaid} (st : Holder) (reply : List ℕ) {whole heard : Heard} → s ≡ leavesHolder st reply heard → whole ≡ heard → s ≡ leavesHolder st reply whole
+pub said-by : {s : HolderSaid} (st : Holder) (reply : List ℕ) {whole heard : Result Reply} → s ≡ leavesHolder st reply heard → whole ≡ heard → s ≡ leavesHolder st reply whole
 said-by st reply e f = e ∙ ap (leavesHolder st reply) (sym f)

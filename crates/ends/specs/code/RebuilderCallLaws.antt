@@ -10,6 +10,8 @@ use lib.ListN.{length, take, drop, length-drop}
 use lib.Seq.{take-all}
 use lib.Dec.{leb, eqb}
 use borrow.Author.Tests.{le-leb, lt-leb, leb-true, eqb-true}
+use Rattle.strings.specs.Refusals.{refusalNumber}
+use Rattle.strings.specs.Results.{Result, refusal, value, andThen}
 use Rattle.strings.specs.laws.Tests.{and-left, and-right, true-false}
 use Rattle.strings.specs.Bits.{range, writeBits, cleared, bytesFor, Part, atFront}
 use Rattle.strings.specs.StringRule.{stringRule}
@@ -22,16 +24,15 @@ use Rattle.messages.specs.declared.Kind.{Kind}
 use Rattle.messages.specs.declared.Kind.the-variants.{Open, Hash, Syndrome, Bits}
 use Rattle.messages.specs.declared.WriteResult.{WriteResult}
 use Rattle.messages.specs.declared.WriteResult.the-variants.{Written, TooShort}
-use Rattle.messages.specs.Writing.{leaves, putFront}
-use Rattle.messages.specs.laws.WritingLaws.{put-fits}
+use Rattle.messages.specs.Writing.{putFront, saidWrite}
+use Rattle.messages.specs.laws.WritingLaws.{wrote-is}
 use Rattle.messages.specs.declared.Question.{Question}
 use Rattle.messages.specs.declared.Question.the-variants.{AskOpen}
 use Rattle.messages.specs.declared.AnswerRead.{AnswerRead}
 use Rattle.messages.specs.declared.AnswerRead.the-variants.{IsSize, IsHash, IsSyndrome, IsBits, NoAnswer}
 use Rattle.messages.specs.Questions.{questionKind, questionBytes}
-use Rattle.codes.specs.Entries.{value}
-use Rattle.messages.specs.Answers.{Answer, sizeAnswer, hashAnswer, syndromeAnswer, bitsAnswer, readAnswer, answerValue}
-use Rattle.messages.specs.laws.AnswerLaws.{answerKind, answer-form, bits-read, BitsAt, range-rest}
+use Rattle.messages.specs.Answers.{Answer, sizeAnswer, hashAnswer, syndromeAnswer, bitsAnswer, readAnswer, saidAnswer, BitsThere, BitsAt}
+use Rattle.messages.specs.laws.AnswerLaws.{answerKind, answer-form, bits-read, range-rest}
 use Rattle.strings.specs.declared.settings.Settings.{Settings}
 use Rattle.ends.specs.declared.How.the-variants.{ByBits}
 use Rattle.ends.specs.declared.Rebuilder.{Rebuilder}
@@ -49,7 +50,7 @@ use Rattle.ends.specs.Soundness.{sound, openingSound, phaseSound}
 use Rattle.ends.specs.laws.SoundParts.{Framed, sound-is, phase-whole, OpeningIs, opening-is, WholeIs, whole-is, PiecesIs, top-is, ask-inside, PhaseOf, isOpening, isPieces, isWhole, phase-of}
 use Rattle.ends.specs.laws.SoundSteps.{fresh-sound, opening-sound, whole-sound}
 use Rattle.ends.specs.laws.Steps.{step-opening, step-whole}
-use Rattle.ends.specs.RebuilderCall.{bitsKnown, Taken, refuses, openingStep, wholeState, wholeStep, stepOf, questionLength, Rooms, roomFor, hears, awaits, rebuilderCall, Started, starts, startDeclines, rebuilderStart, freshRebuilder}
+use Rattle.ends.specs.RebuilderCall.{bitsKnown, Taken, openingStep, wholeState, wholeStep, stepOf, questionLength, Rooms, roomFor, awaits, rebuilderCall, starts, rebuilderStart, freshRebuilder, given, Started}
 use Rattle.ends.specs.declared.rebuilding.RebuilderOut.{RebuilderOut}
 use Rattle.ends.specs.declared.rebuilding.StartAnswer.the-variants.{Begun, NotBegun}
 use Rattle.ends.specs.declared.rebuilding.StartOut.{StartOut}
@@ -213,9 +214,9 @@ module _ (st : Rebuilder) (msg : List ℕ) (len : ℕ) (read : AnswerRead) (d : 
   framed-now : Framed st
   framed-now = sound-is st (d .sound-now) .0
 
-  module _ (a : Answer) (v : answerValue msg len read ≡ some a) where
-    read-value : answerValue msg (questionLength (d .question)) (readAnswer (questionKind (d .question)) (questionLength (d .question)) (st .settings .h) msg) ≡ some a
-    read-value = ap₂ (answerValue msg) (sym (d .asked-length)) (sym (d .read-is)) ∙ v
+  module _ (a : Answer) (v : saidAnswer msg len read ≡ value a) where
+    read-value : readAnswer (questionKind (d .question)) (questionLength (d .question)) (st .settings .h) msg ≡ value a
+    read-value = sym (d .read-is) ∙ v
 
     proper-now : Proper (st .settings) (d .question) a
     proper-now = answer-form (questionKind (d .question)) (questionLength (d .question)) (st .settings .h) msg a read-value .proper
@@ -238,18 +239,18 @@ module _ (st : Rebuilder) (msg : List ℕ) (len : ℕ) (read : AnswerRead) (d : 
 
   pub heard-size : (n : ℕ) → read ≡ IsSize n → (room : ℕ) → 8 ≤ room → Opening st n room
   heard-size n f room h =
-      let v = ap (answerValue msg len) f in
+      let v = ap (saidAnswer msg len) f in
       record { sound-now = d .sound-now; array = d .array; phase = kind-now (sizeAnswer n) v; small = proper-now (sizeAnswer n) v .values; enough = h }
 
   pub heard-hash : (v : ℕ) → read ≡ IsHash v → (room : ℕ) → 8 ≤ room → Acting st (length msg) room × ((st .stage ≡ Hashing) × (top st .q ≡ top st .p))
   heard-hash v f room h =
-      let w = ap (answerValue msg len) f in
+      let w = ap (saidAnswer msg len) f in
       let k = kind-now (hashAnswer v) w in
       (piece-acting (hashAnswer v) w (k .0) room h, (k .1, k .2))
 
   pub heard-syndrome : (a v : ℕ) → read ≡ IsSyndrome a v → (room : ℕ) → 8 ≤ room → Acting st (length msg) room × RepairDue st
   heard-syndrome a v f room h =
-      let w = ap (answerValue msg len) f in
+      let w = ap (saidAnswer msg len) f in
       let k = kind-now (syndromeAnswer a v) w in
       (piece-acting (syndromeAnswer a v) w (k .0) room h, k .1)
 
@@ -259,7 +260,7 @@ module _ (st : Rebuilder) (msg : List ℕ) (len : ℕ) (read : AnswerRead) (d : 
     bitsHeard = bitsAnswer (range msg (8 * at) len)
 
     bits-due : (dueLength st ≡ len) × ((st .phase ≡ AtWhole) ⊎ (ForPiece st (d .question) × AsksBits (st .stage)))
-    bits-due = rw (d .asked-length) (kind-now bitsHeard (ap (answerValue msg len) f))
+    bits-due = rw (d .asked-length) (kind-now bitsHeard (ap (saidAnswer msg len) f))
 
     pub heard-bits : (room : ℕ) → 8 ≤ room → BitsDue st (length msg) room × (dueLength st ≡ len)
     heard-bits room h = (record { phases = go (bits-due .1) }, bits-due .0)
@@ -268,15 +269,13 @@ module _ (st : Rebuilder) (msg : List ℕ) (len : ℕ) (read : AnswerRead) (d : 
         go (inl p) =
             let e : st .n ≡ len = sym (due-whole st p) ∙ bits-due .0 in
             let r = range-length msg (8 * at) len in
-            let q = size-now bitsHeard (ap (answerValue msg len) f) in
+            let q = size-now bitsHeard (ap (saidAnswer msg len) f) in
             let u = size-bits (range msg (8 * at) len) in
             inl record { sound-now = d .sound-now; phase = p; short = omega arith; enough = h }
-        go (inr k) = inr (piece-acting bitsHeard (ap (answerValue msg len) f) (k .0) room h, k .1)
+        go (inr k) = inr (piece-acting bitsHeard (ap (saidAnswer msg len) f) (k .0) room h, k .1)
 
     bits-there : BitsAt len msg at
-    bits-there =
-        let k = proper-now bitsHeard (ap (answerValue msg len) f) .of-kind in
-        rw (d .asked-length) (bits-read (questionLength (d .question)) (st .settings .h) msg at (ap (λ (x : Kind). readAnswer x (questionLength (d .question)) (st .settings .h) msg) k ∙ sym (d .read-is) ∙ f))
+    bits-there = bits-read msg len at (d .bits-there) f
 
   pub bits-inside : (at : ℕ) → read ≡ IsBits at → at ≤ length msg
   bits-inside at f = bits-there at f .inside
@@ -325,20 +324,20 @@ module _ (st : Rebuilder) (msg : List ℕ) (len : ℕ) (read : AnswerRead) (d : 
       go (inl w) = rw (w .phase) refl
       go (inr a) = later-known (bitsAnswer l) (a .0)
 
-  pub hears-short : (y : List ℕ) (r : Rooms) → answerRoom st r read ≡ false → hears st y msg r len read ≡ refuses BufferTooShort
+  pub hears-short : (y : List ℕ) (r : Rooms) → answerRoom st r read ≡ false → andThen (saidAnswer msg len read) (given st y msg r) ≡ refusal (refusalNumber BufferTooShort)
   hears-short y r e = go read refl e
     where
-      go : (x : AnswerRead) → read ≡ x → answerRoom st r x ≡ false → hears st y msg r len x ≡ refuses BufferTooShort
+      go : (x : AnswerRead) → read ≡ x → answerRoom st r x ≡ false → andThen (saidAnswer msg len x) (given st y msg r) ≡ refusal (refusalNumber BufferTooShort)
       go (IsSize n) f e = rw (size-known n f, e) refl
       go (IsHash v) f e = rw (hash-known v f, e) refl
       go (IsSyndrome a v) f e = rw (syndrome-known a v f, e) refl
       go (IsBits at) f e = rw (bits-known at (range msg (8 * at) len) f, e) refl
       go (NoAnswer x) f e = absurd (true-false e)
 
-  pub hears-long : (y : List ℕ) (r : Rooms) → answerRoom st r read ≡ true → hears st y msg r len read ≡ heardStep st y msg len read
+  pub hears-long : (y : List ℕ) (r : Rooms) → answerRoom st r read ≡ true → andThen (saidAnswer msg len read) (given st y msg r) ≡ heardStep st y msg len read
   hears-long y r e = go read refl e
     where
-      go : (x : AnswerRead) → read ≡ x → answerRoom st r x ≡ true → hears st y msg r len x ≡ heardStep st y msg len x
+      go : (x : AnswerRead) → read ≡ x → answerRoom st r x ≡ true → andThen (saidAnswer msg len x) (given st y msg r) ≡ heardStep st y msg len x
       go (IsSize n) f e = rw (size-known n f, e) refl
       go (IsHash v) f e = rw (hash-known v f, e) refl
       go (IsSyndrome a v) f e = rw (syndrome-known a v f, e) refl
@@ -359,20 +358,21 @@ pub acting-small : (st : Rebuilder) (size room : ℕ) → Acting st size room �
 acting-small st size room k = let s = size-most st size room k in omega arith
 
 -- ---- the message for the question that waits
-module _ (st : Rebuilder) (msg : List ℕ) (q : Question) {len : ℕ} {kind : Kind} {read : AnswerRead} (ln : len ≡ questionLength q) (kn : kind ≡ questionKind q) (rd : read ≡ readAnswer kind len (st .settings .h) msg) where
-  read-for : read ≡ readAnswer (questionKind q) (questionLength q) (st .settings .h) msg
+module _ (st : Rebuilder) (msg : List ℕ) (q : Question) (len : ℕ) (kind : Kind) (read : AnswerRead) (ln : len ≡ questionLength q) (kn : kind ≡ questionKind q)
+    (rd : saidAnswer msg len read ≡ readAnswer kind len (st .settings .h) msg) where
+  read-for : saidAnswer msg len read ≡ readAnswer (questionKind q) (questionLength q) (st .settings .h) msg
   read-for = rd ∙ ap₂ (λ (k : Kind) (l : ℕ). readAnswer k l (st .settings .h) msg) kn ln
 
-  pub due : sound st ≡ true → planned st ≡ some q → length (st .pieces) ≡ 32 → Bytes msg → Due st msg len read
-  due s p a b = record { sound-now = s; array = a; bytes = b; question = q; asked = p; asked-length = ln; read-is = read-for }
+  pub due : sound st ≡ true → planned st ≡ some q → length (st .pieces) ≡ 32 → Bytes msg → BitsThere msg len read → Due st msg len read
+  due s p a b t = record { sound-now = s; array = a; bytes = b; question = q; asked = p; asked-length = ln; read-is = read-for; bits-there = t }
 
-  pub awaits-hears : (y : List ℕ) (r : Rooms) → awaits st y msg r (some q) ≡ hears st y msg r len read
-  awaits-hears y r = ap₂ (hears st y msg r) (sym ln) (sym read-for)
+  pub awaits-hears : (y : List ℕ) (r : Rooms) → awaits st y msg r (some q) ≡ andThen (saidAnswer msg len read) (given st y msg r)
+  awaits-hears y r = ap (λ (z : Result Answer). andThen z (given st y msg r)) (sym read-for)
 
-pub taken-said : (st : Rebuilder) (s q : List ℕ) {a b : Taken} {x : RebuilderSaid} → a ≡ b → x ≡ leavesRebuilder st s q b → x ≡ leavesRebuilder st s q a
+pub taken-said : (st : Rebuilder) (s q : List ℕ) {a b : Result Taken} {x : RebuilderSaid} → a ≡ b → x ≡ leavesRebuilder st s q b → x ≡ leavesRebuilder st s q a
 taken-said st s q e f = f ∙ ap (leavesRebuilder st s q) (sym e)
 
-pub refused-said : (st : Rebuilder) (e : Refusal) (s q : List ℕ) {r : RebuilderOut} {a : Taken} → r ≡ turnedDown e st → a ≡ refuses e → saidRebuilder r s q ≡ leavesRebuilder st s q a
+pub refused-said : (st : Rebuilder) (e : Refusal) (s q : List ℕ) {r : RebuilderOut} {a : Result Taken} → r ≡ turnedDown e st → a ≡ refusal (refusalNumber e) → saidRebuilder r s q ≡ leavesRebuilder st s q a
 refused-said st e s q f g = ap (λ (z : RebuilderOut). saidRebuilder z s q) f ∙ ap (leavesRebuilder st s q) (sym g)
 
 pub copy-there : (st : Rebuilder) (y : List ℕ) (bits : ℕ) → (stringRule y bits && eqb (st .ybits) bits) ≡ true → st .ybits ≤ 8 * length y
@@ -383,12 +383,12 @@ copy-there st y bits e =
 
 -- ---- the tests of the call
 module _ (st : Rebuilder) (y : List ℕ) (bits : ℕ) (msg : List ℕ) (r : Rooms) where
-  pub call-bad-string : (stringRule y bits && eqb (st .ybits) bits) ≡ false → rebuilderCall st y bits msg r ≡ refuses BadString
+  pub call-bad-string : (stringRule y bits && eqb (st .ybits) bits) ≡ false → rebuilderCall st y bits msg r ≡ refusal (refusalNumber BadString)
   unfolding rebuilderCall
   call-bad-string e = rw e refl
 
   module _ (e : (stringRule y bits && eqb (st .ybits) bits) ≡ true) where
-    pub call-unsound : sound st ≡ false → rebuilderCall st y bits msg r ≡ refuses OutOfTurn
+    pub call-unsound : sound st ≡ false → rebuilderCall st y bits msg r ≡ refusal (refusalNumber OutOfTurn)
     unfolding rebuilderCall
     call-unsound f = rw (e, f) refl
 
@@ -401,23 +401,23 @@ pub not-begun-out : (e : Refusal) {st : Rebuilder} → st ≡ noRebuilder → _�
 not-begun-out e f = (λ i. record { answer = NotBegun e; state = f i })
 
 module _ (S : Settings) (y : List ℕ) (bits : ℕ) (q : List ℕ) where
-  abbrev started : Started
+  abbrev started : Result Started
   started = rebuilderStart S y bits (length q)
 
-  pub start-refused : (e : Refusal) {o : StartOut} → o ≡ record { answer = NotBegun e; state = noRebuilder } → started ≡ startDeclines e → saidStart o q ≡ leavesStart q started
+  pub start-refused : (e : Refusal) {o : StartOut} → o ≡ record { answer = NotBegun e; state = noRebuilder } → started ≡ refusal (refusalNumber e) → saidStart o q ≡ leavesStart q started
   start-refused e f g = ap (λ (z : StartOut). saidStart z q) f ∙ ap (leavesStart q) (sym g)
 
-  pub start-bad-setting : withinLimits S ≡ false → started ≡ startDeclines BadSetting
+  pub start-bad-setting : withinLimits S ≡ false → started ≡ refusal (refusalNumber BadSetting)
   unfolding rebuilderStart
   start-bad-setting e = rw e refl
 
   module _ (a : withinLimits S ≡ true) where
-    pub start-bad-string : stringRule y bits ≡ false → started ≡ startDeclines BadString
+    pub start-bad-string : stringRule y bits ≡ false → started ≡ refusal (refusalNumber BadString)
     unfolding rebuilderStart
     start-bad-string e = rw (a, e) refl
 
     module _ (b : stringRule y bits ≡ true) where
-      pub start-no-room : length q < 8 → started ≡ startDeclines BufferTooShort
+      pub start-no-room : length q < 8 → started ≡ refusal (refusalNumber BufferTooShort)
       unfolding rebuilderStart
       start-no-room h = rw (a, b, lt-leb 8 (length q) h) refl
 
@@ -433,16 +433,15 @@ module _ (S : Settings) (y : List ℕ) (bits : ℕ) (q : List ℕ) where
         unfolding planned
         opening-short = question-short (freshRebuilder S bits) (AskOpen (S .h) (S .key)) (fresh-sound S bits (limits-is S a) (rule-is y bits b .few) .0) refl
 
-        module _ {w : WriteResult} {q′ : List ℕ} (wr : leaves w q′ ≡ putFront (questionBytes (AskOpen (S .h) (S .key))) q) where
-          opening-fits : leaves w q′ ≡ leaves (Written (length (questionBytes (AskOpen (S .h) (S .key))))) (atFront (questionBytes (AskOpen (S .h) (S .key))) q)
-          opening-fits = let o = opening-short in wr ∙ put-fits (questionBytes (AskOpen (S .h) (S .key))) q (omega arith)
+        module _ (w : WriteResult) (q′ : List ℕ) (wr : saidWrite w q′ ≡ putFront (questionBytes (AskOpen (S .h) (S .key))) q) where
+          opening-fits : (w ≡ Written (length (questionBytes (AskOpen (S .h) (S .key))))) × (q′ ≡ atFront (questionBytes (AskOpen (S .h) (S .key))) q)
+          opening-fits = let o = opening-short in wrote-is w q′ (questionBytes (AskOpen (S .h) (S .key))) q wr (omega arith)
 
           pub start-fits : w ≡ TooShort → ⊥
-          start-fits e = let f = opening-fits in let n : _≡_ {A = ℕ} 0 1 = cc in omega arith
+          start-fits e = let f = opening-fits .0 in let n : _≡_ {A = ℕ} 0 1 = cc in omega arith
 
           pub start-begun : {size : ℕ} → w ≡ Written size → {st : Rebuilder} → st ≡ freshRebuilder S bits → saidStart (record { answer = Begun size; state = st }) q′ ≡ leavesStart q started
           start-begun {size} e {st} f =
-              let g = opening-fits in
+              let g = opening-fits .0 in
               let n : size ≡ length (questionBytes (AskOpen (S .h) (S .key))) = cc in
-              let o : q′ ≡ atFront (questionBytes (AskOpen (S .h) (S .key))) q = cc in
-              (λ i. record { answer = value (n i); state = f i; question = o i }) ∙ ap (leavesStart q) (sym begins)
+              (λ i. record { answer = value (n i); state = f i; question = opening-fits .1 i }) ∙ ap (leavesStart q) (sym begins)

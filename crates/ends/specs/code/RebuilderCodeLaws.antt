@@ -7,29 +7,25 @@ use mathlib.Core.Option.{Option, none, some}
 use Prim.Native.Nat.{ℕ, _+_, _-_, _*_, max, _≤_, _<_}
 use native.Mathlib.Omega.{arith}
 use lib.ListN.{length}
-use lib.Dec.{eqb, lit≤}
+use lib.Dec.{lit≤}
 use borrow.Author.Tests.{eq-eqb, ne-eqb}
+use Rattle.strings.specs.Results.{Result, value}
+use Rattle.codes.specs.laws.TrialLaws.{agreed-some, agreed-none, tried-settled, tried-left}
+use Rattle.codes.specs.Trials.{agreeing, triedAt}
 use Rattle.strings.specs.Bits.{range, writeBits, Part, atFront, maxBits}
 use Rattle.strings.specs.laws.RangeLaws.{range-length}
-use Rattle.codes.specs.declared.edits.Edit.{Edit}
-use Rattle.codes.specs.declared.edits.Edit.the-variants.{Keep}
-use Rattle.codes.specs.declared.edits.Repair.{Repair}
-use Rattle.codes.specs.declared.edits.Repair.the-variants.{Found, Nothing}
 use Rattle.codes.specs.Hash.{hash}
-use Rattle.codes.specs.Repair.{putIn, takeOut, repairTo}
-use Rattle.codes.specs.code.Edits.{edited, Fits, Editable, repairEdit}
+use Rattle.codes.specs.Repair.{repairTo, OneApart}
 use Rattle.codes.specs.laws.RepairLaws.{repair-put-in, repair-take-out}
-use Rattle.codes.specs.laws.EditLaws.{repair-found, repair-nothing, repair-fits}
 use Rattle.messages.specs.declared.Question.{Question}
 use Rattle.messages.specs.declared.Question.the-variants.{AskBits}
 use Rattle.messages.specs.declared.WriteResult.{WriteResult}
 use Rattle.messages.specs.declared.WriteResult.the-variants.{Written, TooShort}
 use Rattle.messages.specs.Questions.{questionBytes}
 use Rattle.messages.specs.laws.QuestionLaws.{InRange, question-size, question-some}
-use Rattle.codes.specs.Entries.{Answer as Outcome, value}
 use Rattle.messages.specs.Answers.{Answer, hashAnswer, syndromeAnswer, bitsAnswer}
-use Rattle.messages.specs.Writing.{leaves, putFront}
-use Rattle.messages.specs.laws.WritingLaws.{put-fits}
+use Rattle.messages.specs.Writing.{putFront, saidWrite}
+use Rattle.messages.specs.laws.WritingLaws.{wrote-is}
 use Rattle.ends.specs.declared.How.{How}
 use Rattle.ends.specs.declared.How.the-variants.{ByHash, ByAnchor, ByBits}
 use Rattle.ends.specs.declared.Piece.{Piece}
@@ -37,7 +33,7 @@ use Rattle.ends.specs.declared.Rebuilder.{Rebuilder}
 use Rattle.ends.specs.declared.SheetChange.{SheetChange}
 use Rattle.ends.specs.declared.SheetChange.the-variants.{NoRow, AddRow}
 use Rattle.ends.specs.laws.Moves.{moved-effect}
-use Rattle.ends.specs.Segments.{placed, laterStage, settles, stays, splits, effect, trialOf, retry, hashOf, row, howNumber, afterAnchor, asks, offset}
+use Rattle.ends.specs.Segments.{placed, laterStage, settles, stays, splits, effect, trialOf, retry, hashOf, row, howNumber, afterAnchor, asks, offset, Effect}
 use Rattle.ends.specs.laws.Right.{Fit, Long, offset-fits}
 use Rattle.ends.specs.States.{top, popped, restaged, retried, splitAt, planned}
 use Rattle.ends.specs.Soundness.{sound, asksBefore}
@@ -60,7 +56,7 @@ use Rattle.ends.specs.declared.rebuilding.RebuilderOut.{RebuilderOut}
 use Rattle.ends.specs.code.StateCode.{Usable, Holds, Stages, Retries, Splits, Counts, Offsets, planOf}
 use Rattle.ends.specs.code.SoundLaws.{sound-counts}
 use Rattle.ends.specs.RebuilderOutcome.{callSaid, nextSize, RebuilderSaid, saidRebuilder, leavesRebuilder}
-use Rattle.ends.specs.code.RebuilderParts.{nextAnswer, OutIs, Acting, Splitting, stepTaken, trialStep, Retriable, RepairDue, putsIn, takesOut, repairHow}
+use Rattle.ends.specs.code.RebuilderParts.{nextAnswer, OutIs, Acting, Splitting, stepTaken, Retriable, RepairDue, putsIn, takesOut, repairHow}
 use Rattle.ends.specs.declared.Stage.the-variants.{Hashing, PuttingIn, TakingOut, Anchor, AllBits}
 use Rattle.ends.specs.declared.Attempt.{Attempt}
 use Rattle.ends.specs.declared.Attempt.the-variants.{First, Second, Third}
@@ -114,24 +110,23 @@ module _ (s : Rebuilder) (k : SheetChange) (buf : List ℕ) (e : sound s ≡ tru
       let n : planned s ≡ none = none-planned (planned s) (sym pl ∙ z) in
       record { out = f ∙ sym (ap (λ (o : Option Question). given (writtenQuestion o) s k) n); question = sym (ap (λ (o : Option Question). atFront (writtenQuestion o) buf) n) }
 
-  module _ {q : Question} (z : p ≡ Ask q) {w : WriteResult} {buf′ : List ℕ} (wr : leaves w buf′ ≡ putFront (questionBytes q) buf) where
-    fits : leaves w buf′ ≡ leaves (Written (length (questionBytes q))) (atFront (questionBytes q) buf)
-    fits = let h = question-short s q e (some-planned (planned s) q (sym pl ∙ z)) in wr ∙ put-fits (questionBytes q) buf (omega arith)
+  module _ {q : Question} (z : p ≡ Ask q) (w : WriteResult) (buf′ : List ℕ) (wr : saidWrite w buf′ ≡ putFront (questionBytes q) buf) where
+    fits : (w ≡ Written (length (questionBytes q))) × (buf′ ≡ atFront (questionBytes q) buf)
+    fits = let h = question-short s q e (some-planned (planned s) q (sym pl ∙ z)) in wrote-is w buf′ (questionBytes q) buf wr (omega arith)
 
     pub short-out : w ≡ TooShort → ⊥
-    short-out y = let f = fits in let n : _≡_ {A = ℕ} 0 1 = cc in omega arith
+    short-out y = let f = fits .0 in let n : _≡_ {A = ℕ} 0 1 = cc in omega arith
 
     pub asked-out : {size : ℕ} → w ≡ Written size → (r : RebuilderOut) → r ≡ record { answer = Asks size; state = s; sheet = k; answered = s .answered; counted = s .counted } → OutIs r s k buf buf′
     asked-out {size} y r g =
-        let f = fits in
+        let f = fits .0 in
         let n : planned s ≡ some q = some-planned (planned s) q (sym pl ∙ z) in
         let a : size ≡ length (questionBytes q) = cc in
-        let b : buf′ ≡ atFront (questionBytes q) buf = cc in
         record {
           out = g ∙ ap (λ (i : ℕ). record { answer = Asks i; state = s; sheet = k; answered = s .answered; counted = s .counted }) a
               ∙ ap (λ (x : RebuilderAnswer). record { answer = x; state = s; sheet = k; answered = s .answered; counted = s .counted }) (sym (next-asks (questionBytes q) (question-some q)))
               ∙ sym (ap (λ (o : Option Question). given (writtenQuestion o) s k) n);
-          question = b ∙ sym (ap (λ (o : Option Question). atFront (writtenQuestion o) buf) n);
+          question = fits .1 ∙ sym (ap (λ (o : Option Question). atFront (writtenQuestion o) buf) n);
         }
 
 -- ---- stages before that of all bits
@@ -263,7 +258,7 @@ split-out st size s r a b c o =
 pub out-said : (st : Rebuilder) (k : Step) (s : List ℕ) {r : RebuilderOut} {s′ q q′ : List ℕ} → OutIs r (k .state) (k .sheet) q q′ → s′ ≡ stringAfter s (k .string) → saidRebuilder r s′ q′ ≡ leavesRebuilder st s q (stepTaken k)
 out-said st k s {r} {s′} {q} {q′} o e =
     (λ i. saidRebuilder (o .out i) (e i) (o .question i))
-    ∙ ap (λ (a : Outcome (Option ℕ)). record { answer = a; state = k .state; sheet = k .sheet; answered = k .state .answered; counted = k .state .counted; string = stringAfter s (k .string); question = atFront (writtenQuestion (planned (k .state))) q }) (next-said (writtenQuestion (planned (k .state))))
+    ∙ ap (λ (a : Result (Option ℕ)). record { answer = a; state = k .state; sheet = k .sheet; answered = k .state .answered; counted = k .state .counted; string = stringAfter s (k .string); question = atFront (writtenQuestion (planned (k .state))) q }) (next-said (writtenQuestion (planned (k .state))))
 
 -- a step that is another's
 pub step-said : (st : Rebuilder) {j k : Step} {x : RebuilderSaid} (s q : List ℕ) → j ≡ k → x ≡ leavesRebuilder st s q (stepTaken k) → x ≡ leavesRebuilder st s q (stepTaken j)
@@ -286,24 +281,34 @@ pub split-said : (st : Rebuilder) (size x p : ℕ) (b : List Bool) (s : List ℕ
 unfolding effectStep
 split-said st size x p b s o e = out-said st (effectStep st size (splits x p b)) s o e
 
--- ---- a trial
-module _ (st : Rebuilder) (y : List ℕ) (size v : ℕ) (how : How) (e : Edit) {t : Piece} (tp : t ≡ top st) {g : ℕ} (hg : g ≡ hash (st .settings .h) (st .settings .key) (edited e (range y (t .y) (t .q)))) where
-  hashed : g ≡ hashOf (st .settings) (edited e (range y (top st .y) (top st .q)))
+-- ---- a trial of the candidate o, which is written if its hash is v
+module _ (st : Rebuilder) (y : List ℕ) (size v : ℕ) (how : How) (o : Option (List Bool)) (a : Answer)
+    (is : stepOf st y size a ≡ effectStep st size (trialOf (st .settings) v how o (retry (st .settings) (top st .p) (range y (top st .y) (top st .q)))))
+    (s s′ : List ℕ) (settled : Bool) (tr : record { settled = settled; buffer = s′ } ≡ triedAt s (top st .x) (agreeing (st .settings .h) (st .settings .key) v o)) where
+  abbrev other : Effect
+  other = retry (st .settings) (top st .p) (range y (top st .y) (top st .q))
+
+  kept-trial : (u : Option (List Bool)) (b : List Bool) → u ≡ some b → hash (st .settings .h) (st .settings .key) b ≡ v → trialOf (st .settings) v how u other ≡ settles how b
   unfolding hashOf
-  hashed = hg ∙ ap (λ (z : Piece). hash (st .settings .h) (st .settings .key) (edited e (range y (z .y) (z .q)))) tp
+  kept-trial u b e h = rw (e, eq-eqb _ v h) refl
 
-  pub try-no : (g ≡ v → ⊥) → (s : List ℕ) {r : RebuilderOut} {q q′ : List ℕ} → OutIs r (tallied (retried st) size 0) NoRow q q′
-      → saidRebuilder r s q′ ≡ leavesRebuilder st s q (stepTaken (trialStep st y size v how e))
-  try-no n s o =
-      let f : eqb (hashOf (st .settings) (edited e (range y (top st .y) (top st .q)))) v ≡ false = ne-eqb _ v (λ z. n (hashed ∙ z)) in
-      rw f (waiting-said st size (laterStage (st .settings) (top st .p) (length (range y (top st .y) (top st .q)))) s o)
+  lost-trial : (u : Option (List Bool)) → agreeing (st .settings .h) (st .settings .key) v u ≡ none → trialOf (st .settings) v how u other ≡ other
+  unfolding hashOf
+  lost-trial none e = refl
+  lost-trial (some b) e = rw (ne-eqb _ v (agreed-none (st .settings .h) (st .settings .key) v b e)) refl
 
-  pub try-yes : g ≡ v → (s : List ℕ) {r : RebuilderOut} {s′ q q′ : List ℕ} → s′ ≡ writeBits s (t .x) (edited e (range y (t .y) (t .q)))
-      → OutIs r (tallied (restaged (popped st)) size 1) (AddRow (st .rows) (row (top st .x) (top st .p) how)) q q′
-      → saidRebuilder r s′ q′ ≡ leavesRebuilder st s q (stepTaken (trialStep st y size v how e))
-  try-yes n s w o =
-      let f : eqb (hashOf (st .settings) (edited e (range y (top st .y) (top st .q)))) v ≡ true = eq-eqb _ v (sym hashed ∙ n) in
-      rw f (settled-said st size how (edited e (range y (top st .y) (top st .q))) s o (w ∙ ap (λ (z : Piece). writeBits s (z .x) (edited e (range y (z .y) (z .q)))) tp))
+  pub try-no : settled ≡ false → {r : RebuilderOut} {q q′ : List ℕ} → OutIs r (tallied (retried st) size 0) NoRow q q′ → saidRebuilder r s′ q′ ≡ leavesRebuilder st s q (stepTaken (stepOf st y size a))
+  try-no f {r} {q} {q′} out =
+      let l = tried-left s s′ (top st .x) (agreeing (st .settings .h) (st .settings .key) v o) settled tr f in
+      step-said st s q (is ∙ ap (effectStep st size) (lost-trial o (l .0)))
+      (ap (λ (z : List ℕ). saidRebuilder r z q′) (l .1) ∙ waiting-said st size (laterStage (st .settings) (top st .p) (length (range y (top st .y) (top st .q)))) s out)
+
+  pub try-yes : settled ≡ true → {r : RebuilderOut} {q q′ : List ℕ} → OutIs r (tallied (restaged (popped st)) size 1) (AddRow (st .rows) (row (top st .x) (top st .p) how)) q q′
+      → saidRebuilder r s′ q′ ≡ leavesRebuilder st s q (stepTaken (stepOf st y size a))
+  try-yes f {r} {q} {q′} out =
+      let k = tried-settled s s′ (top st .x) (agreeing (st .settings .h) (st .settings .key) v o) settled tr f in
+      let g = agreed-some (st .settings .h) (st .settings .key) v o (k .0) (k .1) in
+      step-said st s q (is ∙ ap (effectStep st size) (kept-trial o (k .0) (g .0) (g .1))) (settled-said st size how (k .0) s out (k .2))
 
 -- ---- ranges of the leftmost piece
 module _ (st : Rebuilder) (size room : ℕ) (k : Acting st size room) {t : Piece} (tp : t ≡ top st) where
@@ -313,8 +318,14 @@ module _ (st : Rebuilder) (size room : ℕ) (k : Acting st size room) {t : Piece
   pub text-part : (s : List ℕ) → st .n ≤ 8 * length s → Part s (t .x) (t .p)
   text-part s h = let a = topped st size room k .inX in let b = framed st size room k .size in rw tp record { there = omega arith; few = omega arith }
 
-  pub editable : (y : List ℕ) (e : Edit) → st .ybits ≤ 8 * length y → Fits e (top st .q) (top st .p) → Editable y (t .y) (t .q) e (t .p)
-  editable y e h f = record { part = copy-part y h; fits = rw tp f }
+  -- a copy of the piece's own length
+  pub same-part : (y : List ℕ) → top st .q ≡ top st .p → st .ybits ≤ 8 * length y → Part y (t .y) (t .p)
+  same-part y e h = let a = topped st size room k .inY in let b = framed st size room k .copy in rw tp record { there = omega arith; few = omega arith }
+
+  -- a repair is to a length one apart
+  pub apart : RepairDue st → OneApart (t .q) (t .p)
+  apart (putsIn e h) = rw tp (inl h)
+  apart (takesOut e h) = rw tp (inr h)
 
   pub narrow : st .settings .h ≤ 32
   narrow = framed st size room k .limits .h-most
@@ -339,36 +350,23 @@ module _ (st : Rebuilder) (y : List ℕ) (size : ℕ) (ph : st .phase ≡ AtPiec
   at-stage : (a : Answer) (t : Stage) → st .stage ≡ t → stepOf st y size a ≡ effectStep st size (effect (st .settings) a (top st .p) copy t)
   at-stage a t e = step-pieces st y size a ph ∙ ap (λ (u : Stage). effectStep st size (effect (st .settings) a (top st .p) copy u)) e
 
-  pub step-hash : (v : ℕ) → st .stage ≡ Hashing → stepOf st y size (hashAnswer v) ≡ trialStep st y size v ByHash Keep
+  pub step-hash : (v : ℕ) → st .stage ≡ Hashing → stepOf st y size (hashAnswer v) ≡ effectStep st size (trialOf (st .settings) v ByHash (some copy) (retry (st .settings) (top st .p) copy))
   unfolding effect
   step-hash v e = at-stage (hashAnswer v) Hashing e
 
-  module _ (a v : ℕ) {r : Repair} (rp : r ≡ repairEdit (top st .p) a copy) where
-    len : length copy ≡ top st .q
-    len = range-length y (top st .y) (top st .q)
+  len : length copy ≡ top st .q
+  len = range-length y (top st .y) (top st .q)
 
-    repaired-put : top st .q + 1 ≡ top st .p → repairTo (top st .p) a copy ≡ putIn a copy
-    repaired-put h = let l = len in repair-put-in (top st .p) a copy (omega arith)
-
-    repaired-take : top st .q ≡ top st .p + 1 → repairTo (top st .p) a copy ≡ takeOut a copy
-    repaired-take h = let l = len in repair-take-out (top st .p) a copy (λ z. omega arith)
-
-    -- the effect is a trial of the repair, if there is one
-    repair-step : RepairDue st
-        → stepOf st y size (syndromeAnswer a v) ≡ effectStep st size (trialOf (st .settings) v (repairHow (top st .p) (top st .q)) (repairTo (top st .p) a copy) (retry (st .settings) (top st .p) copy))
-    unfolding effect repairHow
-    repair-step (putsIn e h) = at-stage (syndromeAnswer a v) PuttingIn e ∙ rw (eq-eqb (top st .q + 1) (top st .p) h, repaired-put h) refl
-    repair-step (takesOut e h) = at-stage (syndromeAnswer a v) TakingOut e ∙ rw (ne-eqb (top st .q + 1) (top st .p) (λ z. omega arith), repaired-take h) refl
-
-    pub syndrome-found : RepairDue st → {d : Edit} → r ≡ Found d → stepOf st y size (syndromeAnswer a v) ≡ trialStep st y size v (repairHow (top st .p) (top st .q)) d
-    syndrome-found o {d} f = repair-step o ∙ rw (repair-found (top st .p) a copy r d rp f) refl
-
-    pub syndrome-nothing : RepairDue st → r ≡ Nothing → stepOf st y size (syndromeAnswer a v) ≡ effectStep st size (retry (st .settings) (top st .p) copy)
-    syndrome-nothing o f = repair-step o ∙ rw (repair-nothing (top st .p) a copy r rp f) refl
-
-    pub syndrome-fits : RepairDue st → {d : Edit} → r ≡ Found d → Fits d (top st .q) (top st .p)
-    syndrome-fits (putsIn e h) {d} f = repair-fits a copy (top st .q) len (top st .p) (inl h) d (sym rp ∙ f)
-    syndrome-fits (takesOut e h) {d} f = repair-fits a copy (top st .q) len (top st .p) (inr h) d (sym rp ∙ f)
+  -- a trial of the repair, if there is one
+  pub step-syndrome : (a v : ℕ) → RepairDue st
+      → stepOf st y size (syndromeAnswer a v) ≡ effectStep st size (trialOf (st .settings) v (repairHow (top st .p) (top st .q)) (repairTo (top st .p) a copy) (retry (st .settings) (top st .p) copy))
+  unfolding effect repairHow
+  step-syndrome a v (putsIn e h) =
+      let l = len in
+      at-stage (syndromeAnswer a v) PuttingIn e ∙ rw (eq-eqb (top st .q + 1) (top st .p) h, repair-put-in (top st .p) a copy (omega arith)) refl
+  step-syndrome a v (takesOut e h) =
+      let l = len in
+      at-stage (syndromeAnswer a v) TakingOut e ∙ rw (ne-eqb (top st .q + 1) (top st .p) (λ z. omega arith), repair-take-out (top st .p) a copy (λ z. omega arith)) refl
 
   pub step-bits : (l : List Bool) → st .stage ≡ AllBits → stepOf st y size (bitsAnswer l) ≡ effectStep st size (settles ByBits l)
   unfolding effect
@@ -380,22 +378,22 @@ module _ (st : Rebuilder) (y : List ℕ) (size : ℕ) (ph : st .phase ≡ AtPiec
   unfolding effect
   step-anchor l i e = at-stage (bitsAnswer l) (Anchor i) e
 
--- ---- a repair that is looked for
-module _ (st : Rebuilder) (y : List ℕ) (size a v : ℕ) (ph : st .phase ≡ AtPieces) (o : RepairDue st)
-    {t : Piece} (tp : t ≡ top st) {r : Repair} (rp : r ≡ repairEdit (t .p) a (range y (t .y) (t .q))) where
-  repair-top : r ≡ repairEdit (top st .p) a (range y (top st .y) (top st .q))
-  repair-top = rp ∙ ap (λ (z : Piece). repairEdit (z .p) a (range y (z .y) (z .q))) tp
+-- ---- the trials, for the piece t that is the leftmost
+module _ (st : Rebuilder) (y : List ℕ) {t : Piece} (tp : t ≡ top st) (s s′ : List ℕ) (settled : Bool) (h key v : ℕ) where
+  pub copy-tried : top st .q ≡ top st .p → record { settled = settled; buffer = s′ } ≡ triedAt s (t .x) (agreeing h key v (some (range y (t .y) (t .p))))
+      → record { settled = settled; buffer = s′ } ≡ triedAt s (top st .x) (agreeing h key v (some (range y (top st .y) (top st .q))))
+  copy-tried e f =
+      f ∙ ap (λ (z : Piece). triedAt s (z .x) (agreeing h key v (some (range y (z .y) (z .p))))) tp
+      ∙ ap (λ (n : ℕ). triedAt s (top st .x) (agreeing h key v (some (range y (top st .y) n)))) (sym e)
 
-  pub found-step : {h : How} → h ≡ repairHow (t .p) (t .q) → {d : Edit} → r ≡ Found d → stepOf st y size (syndromeAnswer a v) ≡ trialStep st y size v h d
-  found-step g {d} f =
-      syndrome-found st y size ph a v repair-top o f
-      ∙ ap (λ (w : How). trialStep st y size v w d) (sym (g ∙ ap (λ (z : Piece). repairHow (z .p) (z .q)) tp))
+  pub repair-tried : (a : ℕ) → record { settled = settled; buffer = s′ } ≡ triedAt s (t .x) (agreeing h key v (repairTo (t .p) a (range y (t .y) (t .q))))
+      → record { settled = settled; buffer = s′ } ≡ triedAt s (top st .x) (agreeing h key v (repairTo (top st .p) a (range y (top st .y) (top st .q))))
+  repair-tried a f = f ∙ ap (λ (z : Piece). triedAt s (z .x) (agreeing h key v (repairTo (z .p) a (range y (z .y) (z .q))))) tp
 
-  pub found-fits : {d : Edit} → r ≡ Found d → Fits d (top st .q) (top st .p)
-  found-fits f = syndrome-fits st y size ph a v repair-top o f
-
-  pub nothing-step : r ≡ Nothing → stepOf st y size (syndromeAnswer a v) ≡ effectStep st size (stays (laterStage (st .settings) (top st .p) (length (range y (top st .y) (top st .q)))))
-  nothing-step f = syndrome-nothing st y size ph a v repair-top o f
+-- the row's how is that of the repair
+pub repaired-out : (st : Rebuilder) {t : Piece} (tp : t ≡ top st) {h : How} → h ≡ repairHow (t .p) (t .q) → {r : RebuilderOut} {s : Rebuilder} {q q′ : List ℕ}
+    → OutIs r s (AddRow (st .rows) (row (top st .x) (top st .p) h)) q q′ → OutIs r s (AddRow (st .rows) (row (top st .x) (top st .p) (repairHow (top st .p) (top st .q)))) q q′
+repaired-out st tp g {r} {s} {q} {q′} o = subst (λ (w : How). OutIs r s (AddRow (st .rows) (row (top st .x) (top st .p) w)) q q′) (g ∙ ap (λ (z : Piece). repairHow (z .p) (z .q)) tp) o
 
 -- ---- the anchor's place
 pub place-some : {p : Place} (o : Option ℕ) → p ≡ placeIn o → {r : ℕ} → p ≡ At r → o ≡ some r

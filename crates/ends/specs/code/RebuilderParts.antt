@@ -7,26 +7,25 @@ use mathlib.Core.List.{List, [], _∷_}
 use Prim.Native.Nat.{ℕ, _+_, _*_, max, _≤_, _<_}
 use lib.ListN.{length}
 use lib.Dec.{eqb}
-use Rattle.strings.specs.Bits.{range, atFront, maxBits}
+use Rattle.strings.specs.Results.{Result, andThen}
+use Rattle.strings.specs.Bits.{atFront, maxBits}
 use Rattle.strings.specs.laws.PackLaws.{Bytes}
-use Rattle.codes.specs.declared.edits.Edit.{Edit}
-use Rattle.codes.specs.code.Edits.{edited}
 use Rattle.ends.specs.declared.How.{How}
 use Rattle.ends.specs.declared.How.the-variants.{ByPutIn, ByTakeOut}
-use Rattle.ends.specs.Segments.{trial, retry, offset}
+use Rattle.ends.specs.Segments.{offset}
 use Rattle.strings.specs.declared.Refusal.{Refusal}
 use Rattle.messages.specs.declared.Question.{Question}
 use Rattle.messages.specs.declared.AnswerRead.{AnswerRead}
 use Rattle.messages.specs.declared.AnswerRead.the-variants.{IsSize, IsHash, IsSyndrome, IsBits, NoAnswer}
 use Rattle.messages.specs.Questions.{questionKind}
-use Rattle.messages.specs.Answers.{readAnswer, sizeAnswer, hashAnswer, syndromeAnswer, bitsAnswer}
+use Rattle.messages.specs.Answers.{readAnswer, saidAnswer, BitsThere}
 use Rattle.ends.specs.declared.Rebuilder.{Rebuilder}
 use Rattle.ends.specs.declared.SheetChange.{SheetChange}
 use Rattle.ends.specs.declared.SheetChange.the-variants.{NoRow}
 use Rattle.ends.specs.Runs.{full}
 use Rattle.ends.specs.States.{planned, top}
 use Rattle.ends.specs.Soundness.{sound}
-use Rattle.ends.specs.RebuilderCall.{Taken, refuses, takes, Step, writtenQuestion, questionLength, Rooms, roomFor, effectStep, stepOf}
+use Rattle.ends.specs.RebuilderCall.{Taken, takes, Step, writtenQuestion, questionLength, Rooms, roomFor, stepOf}
 use Rattle.ends.specs.declared.rebuilding.RebuilderAnswer.{RebuilderAnswer}
 use Rattle.ends.specs.declared.rebuilding.RebuilderAnswer.the-variants.{Asks, Finished, Refused}
 use Rattle.ends.specs.declared.rebuilding.RebuilderOut.{RebuilderOut}
@@ -47,7 +46,7 @@ abbrev pub turnedDown : Refusal → Rebuilder → RebuilderOut
 turnedDown e st = record { answer = Refused e; state = st; sheet = NoRow; answered = st .answered; counted = st .counted }
 
 -- a step with the question that its state asks
-abbrev pub stepTaken : Step → Taken
+abbrev pub stepTaken : Step → Result Taken
 stepTaken k = takes k (writtenQuestion (planned (k .state)))
 
 -- what is given for a state s and a change of the sheet, with the next question written over the buffer q
@@ -109,12 +108,6 @@ bitsOfStage st AllBits = top st .p
 unfoldable pub repairHow : ℕ → ℕ → How
 repairHow p q = cond (eqb (q + 1) p) ByPutIn ByTakeOut
 
--- an edit of the leftmost piece's copy, kept if its hash is v
-abbrev pub trialStep : Rebuilder → List ℕ → (size v : ℕ) → How → Edit → Step
-trialStep st y size v how e =
-    let ys = range y (top st .y) (top st .q) in
-    effectStep st size (trial (st .settings) v how (edited e ys) (retry (st .settings) (top st .p) ys))
-
 -- ---- an answer that was read
 -- the opening's answer n
 pub record Opening (st : Rebuilder) (n room : ℕ) : Type 0 where
@@ -152,7 +145,8 @@ pub record Due (st : Rebuilder) (msg : List ℕ) (len : ℕ) (read : AnswerRead)
   pub question : Question
   pub asked : planned st ≡ some question
   pub asked-length : len ≡ questionLength question
-  pub read-is : read ≡ readAnswer (questionKind question) (questionLength question) (st .settings .h) msg
+  pub read-is : saidAnswer msg len read ≡ readAnswer (questionKind question) (questionLength question) (st .settings .h) msg
+  pub bits-there : BitsThere msg len read
 
 -- whether the lent room is enough for the answer; a message that is no answer is turned down for that
 abbrev pub answerRoom : Rebuilder → Rooms → AnswerRead → Bool
@@ -163,9 +157,5 @@ answerRoom st rooms (IsBits at) = roomFor st (st .n) rooms
 answerRoom st rooms (NoAnswer e) = true
 
 -- what comes of it in enough room
-abbrev pub heardStep : Rebuilder → (y msg : List ℕ) → (len : ℕ) → AnswerRead → Taken
-heardStep st y msg len (IsSize n) = stepTaken (stepOf st y (length msg) (sizeAnswer n))
-heardStep st y msg len (IsHash v) = stepTaken (stepOf st y (length msg) (hashAnswer v))
-heardStep st y msg len (IsSyndrome a v) = stepTaken (stepOf st y (length msg) (syndromeAnswer a v))
-heardStep st y msg len (IsBits at) = stepTaken (stepOf st y (length msg) (bitsAnswer (range msg (8 * at) len)))
-heardStep st y msg len (NoAnswer e) = refuses e
+abbrev pub heardStep : Rebuilder → (y msg : List ℕ) → (len : ℕ) → AnswerRead → Result Taken
+heardStep st y msg len read = andThen (saidAnswer msg len read) (λ a. stepTaken (stepOf st y (length msg) a))

@@ -6,10 +6,11 @@ use native.Mathlib.Numerals.{add-one}
 use native.Mathlib.Omega.{arith}
 use lib.ListN.{length, replicate}
 use lib.Seq.{sets, length-sets}
+use Rattle.strings.specs.Results.{Result, refusal, value}
 use Rattle.ends.specs.declared.Holder.{Holder}
 use Rattle.ends.specs.declared.Rebuilder.{Rebuilder}
 use Rattle.ends.specs.declared.Row.{Row}
-use Rattle.ends.specs.RebuilderCall.{Rooms, Step, Taken, noRow, rebuilderCall, refuses, sheetAfter, takes, rowsNeeded}
+use Rattle.ends.specs.RebuilderCall.{Rooms, Step, Taken, noRow, rebuilderCall, sheetAfter, takes, rowsNeeded}
 use Rattle.ends.specs.laws.SheetRoom.{taken-rows}
 use Rattle.ends.specs.Worlds.{afterTaken, world}
 use Rattle.ends.specs.declared.rebuilding.RebuilderOut.{RebuilderOut}
@@ -18,14 +19,14 @@ use Rattle.ends.specs.SheetCall.{saidOnSheet, sheetLeft, leavesOnSheet}
 
 -- ---- the call
 module _ (st : Rebuilder) (string question string′ question′ : List ℕ) (out : RebuilderOut) where
-  said-rows : (t : Taken) (n : ℕ) → saidRebuilder out string′ question′ ≡ leavesRebuilder st string question t
+  said-rows : (t : Result Taken) (n : ℕ) → saidRebuilder out string′ question′ ≡ leavesRebuilder st string question t
       → ((j : Step) (m : List ℕ) → t ≡ takes j m → rowsNeeded (j .sheet) ≤ n) → rowsNeeded (out .sheet) ≤ n
-  said-rows (refuses d) n k h = let c = ap (λ (w : RebuilderSaid). rowsNeeded (w .sheet)) k in omega arith
-  said-rows (takes j m) n k h = let c = ap (λ (w : RebuilderSaid). rowsNeeded (w .sheet)) k in let i = h j m refl in omega arith
+  said-rows (refusal d) n k h = let c = ap (λ (w : RebuilderSaid). rowsNeeded (w .sheet)) k in omega arith
+  said-rows (value v) n k h = let c = ap (λ (w : RebuilderSaid). rowsNeeded (w .sheet)) k in let i = h (v .step) (v .question) refl in omega arith
 
-  said-left : (t : Taken) (sh : List Row) → saidRebuilder out string′ question′ ≡ leavesRebuilder st string question t → sheetAfter sh (out .sheet) ≡ sheetLeft sh t
-  said-left (refuses d) sh k = ap (λ (w : RebuilderSaid). sheetAfter sh (w .sheet)) k
-  said-left (takes j m) sh k = ap (λ (w : RebuilderSaid). sheetAfter sh (w .sheet)) k
+  said-left : (t : Result Taken) (sh : List Row) → saidRebuilder out string′ question′ ≡ leavesRebuilder st string question t → sheetAfter sh (out .sheet) ≡ sheetLeft sh t
+  said-left (refusal d) sh k = ap (λ (w : RebuilderSaid). sheetAfter sh (w .sheet)) k
+  said-left (value v) sh k = ap (λ (w : RebuilderSaid). sheetAfter sh (w .sheet)) k
 
 module _ (st : Rebuilder) (y : List ℕ) (bits : ℕ) (msg : List ℕ) (rooms : Rooms) (string question string′ question′ : List ℕ) (out : RebuilderOut)
     (said : saidRebuilder out string′ question′ ≡ leavesRebuilder st string question (rebuilderCall st y bits msg rooms)) where
@@ -38,11 +39,11 @@ module _ (st : Rebuilder) (y : List ℕ) (bits : ℕ) (msg : List ℕ) (rooms : 
   left-on-sheet sh sh′ e = rw (said, e, said-left st string question string′ question′ out (rebuilderCall st y bits msg rooms) sh said) refl
 
 -- demand 3's world after a call holds the state, the string and the rows that the call leaves
-pub world-left : (H : Holder) (r : Rebuilder) (string : List ℕ) (rows : List Row) (question buffer : List ℕ) (heard taken : List (List ℕ)) (m : List ℕ) (t : Taken)
+pub world-left : (H : Holder) (r : Rebuilder) (string : List ℕ) (rows : List Row) (question buffer : List ℕ) (heard taken : List (List ℕ)) (m : List ℕ) (t : Result Taken)
     → (question′ : List ℕ) × (taken′ : List (List ℕ)) × (afterTaken (world H r string rows question heard taken) m t
     ≡ world H (leavesOnSheet r rows string buffer t .said .state) (leavesOnSheet r rows string buffer t .said .string) (leavesOnSheet r rows string buffer t .rows) question′ heard taken′)
-world-left H r string rows question buffer heard taken m (refuses e) = (question, taken, refl)
-world-left H r string rows question buffer heard taken m (takes k next) = (next, m ∷ taken, refl)
+world-left H r string rows question buffer heard taken m (refusal e) = (question, taken, refl)
+world-left H r string rows question buffer heard taken m (value v) = (v .question, m ∷ taken, refl)
 
 -- ---- rows cleared one after the other
 -- the rows s, of which those below i are cleared, come from s₀

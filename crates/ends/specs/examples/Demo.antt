@@ -4,13 +4,13 @@ use mathlib.Core.Bool.{Bool, true, false}
 use mathlib.Core.List.{List, [], _∷_, _++_, map}
 use Prim.Native.Nat.{ℕ, zero, suc, _+_, _-_, _*_, _/_}
 use lib.ListN.{take, replicate}
+use Rattle.strings.specs.Results.{Result, refusal, value}
 use Rattle.strings.specs.Bits.{bitAt, range, bytesFor, flipped, setBit, writeBits, pack, cleared, sameBits}
 use Rattle.strings.specs.StringRule.{noneSet, stringRule}
-use Rattle.strings.specs.Refusals.{refusalNumber}
 use Rattle.codes.specs.Syndrome.{syndrome}
 use Rattle.codes.specs.Repair.{insertions, deletions, withSyndrome, putIn, takeOut}
-use Rattle.codes.specs.Hash.{xorLeft, xorRight, step, hashFrom, hash}
-use Rattle.messages.specs.Numbers.{groups, number, nextByte, numberAt}
+use Rattle.codes.specs.Hash.{xorLeft, xorRight, xorshift, hashFrom, hash}
+use Rattle.messages.specs.Numbers.{groups, number, nextByte, numberAt, twoAt, threeAt}
 use Rattle.messages.specs.Kinds.{kindAt}
 use Rattle.messages.specs.Questions.{questionBytes, openingAt, rangeAt, fieldsAt}
 use Rattle.messages.specs.Answers.{answerBytes, sizeAt, hashAt, syndromeAt, bitsAt, answerFields, readAnswer}
@@ -23,8 +23,8 @@ use Rattle.ends.specs.Anchors.{isqrt, place}
 use Rattle.ends.specs.Segments.{hashOf, laterStage, effect, firstStage}
 use Rattle.ends.specs.States.{noPiece, top, popped, pushed, restaged, retried, splitAt, planned}
 use Rattle.ends.specs.Soundness.{holderSound, isBlank, blankFrom, pieceFits, inOrder, rowsLeft, asksLeft, stageFits, stackSound, topFits, openingSound, piecesSound, wholeSound, sound}
-use Rattle.ends.specs.HolderCall.{Heard, declines, replies, freshHolder, sameBitCount, sends, holderCall}
-use Rattle.ends.specs.RebuilderCall.{Started, startDeclines, starts, rebuilderStart, Step, Taken, refuses, takes, noRow, stringAfter, sheetAfter, tallied, effectStep, openingStep, wholeStep, stepOf, rebuilderCall, freshRebuilder}
+use Rattle.ends.specs.HolderCall.{freshHolder, sameBitCount, sends, holderCall, Reply}
+use Rattle.ends.specs.RebuilderCall.{Started, starts, rebuilderStart, Step, Taken, noRow, stringAfter, sheetAfter, tallied, effectStep, openingStep, wholeStep, stepOf, rebuilderCall, freshRebuilder}
 use Rattle.ends.specs.Worlds.{Call, toHolder, toRebuilder, Lent, roomsOf, world, firstWorld, worldAfter}
 use Rattle.ends.specs.declared.Stage.the-variants.{Hashing}
 use Rattle.ends.specs.declared.Phase.the-variants.{AtPieces}
@@ -47,13 +47,13 @@ rowLine r = row (r .start) (r .len) (r .how)
 abbrev lastLines : Rebuilder → (string : List ℕ) → List Row → List Line
 lastLines st bs sh = map rowLine (take (st .rows) sh) ++ (rebuilt (range bs 0 (st .n)) (st .answered - 1) (st .counted) ∷ [])
 
-abbrev afterReply : Heard → (Holder → List ℕ → List Line) → List Line
-afterReply (declines e) go = turnedDown (refusalNumber e) ∷ []
-afterReply (replies H a) go = answers a ∷ go H a
+abbrev afterReply : Result Reply → (Holder → List ℕ → List Line) → List Line
+afterReply (refusal number) go = turnedDown number ∷ []
+afterReply (value r) go = answers (r .message) ∷ go (r .state) (r .message)
 
-abbrev afterCall : Taken → (Step → List ℕ → List Line) → List Line
-afterCall (refuses e) go = turnedDown (refusalNumber e) ∷ []
-afterCall (takes s q) go = go s q
+abbrev afterCall : Result Taken → (Step → List ℕ → List Line) → List Line
+afterCall (refusal number) go = turnedDown number ∷ []
+afterCall (value t) go = go (t .step) (t .question)
 
 -- question by question, at most fuel of them: each goes to the holder, and its reply to the rebuilder; no question is the finish
 abbrev rounds : (fuel : ℕ) → Lent → Holder → Rebuilder → (string : List ℕ) → List Row → (question : List ℕ) → List Line
@@ -64,10 +64,10 @@ rounds (suc f) c H st bs sh (b ∷ q) =
     afterCall (rebuilderCall st (c .y) (c .ybits) a (roomsOf c bs sh)) (λ (s : Step) (q′ : List ℕ).
     rounds f c H′ (s .state) (stringAfter bs (s .string)) (sheetAfter sh (s .sheet)) q′))
 
-abbrev afterStart : Lent → Started → List Line
-afterStart c (startDeclines e) = turnedDown (refusalNumber e) ∷ []
-afterStart c (starts st q) =
-    rounds (10 * (c .xbits / c .settings .m) + 7) c freshHolder st (replicate (bytesFor (c .xbits)) 0) (replicate (2 * (c .xbits / c .settings .m) + 1) noRow) q
+abbrev afterStart : Lent → Result Started → List Line
+afterStart c (refusal number) = turnedDown number ∷ []
+afterStart c (value b) =
+    rounds (10 * (c .xbits / c .settings .m) + 7) c freshHolder (b .state) (replicate (bytesFor (c .xbits)) 0) (replicate (2 * (c .xbits / c .settings .m) + 1) noRow) (b .question)
 
 -- the printed lines for settings, X and Y: bytes and bit count each
 abbrev demonstration : Settings → (x : List ℕ) (xbits : ℕ) (y : List ℕ) (ybits : ℕ) → List Line
@@ -175,5 +175,5 @@ pub record Demo : Type 0 where
       ((0x02 ∷ 0x03 ∷ 0xab ∷ 0x01 ∷ []) ∷ (0x00 ∷ 0x04 ∷ []) ∷ [])
 
 pub demo : Demo
-unfolding bitAt range flipped setBit writeBits pack cleared sameBits noneSet stringRule syndrome insertions deletions withSyndrome putIn takeOut xorLeft xorRight step hashFrom hash groups number nextByte numberAt kindAt questionBytes openingAt rangeAt fieldsAt answerBytes sizeAt hashAt syndromeAt bitsAt answerFields readAnswer withinLimits isqrt place hashOf laterStage effect firstStage top popped pushed restaged retried splitAt planned holderSound isBlank blankFrom pieceFits inOrder rowsLeft asksLeft stageFits topFits stackSound openingSound piecesSound wholeSound sound sameBitCount sends holderCall rebuilderStart tallied effectStep openingStep wholeStep stepOf rebuilderCall
+unfolding bitAt range flipped setBit writeBits pack cleared sameBits noneSet stringRule syndrome insertions deletions withSyndrome putIn takeOut xorLeft xorRight xorshift hashFrom hash groups number nextByte numberAt twoAt threeAt kindAt questionBytes openingAt rangeAt fieldsAt answerBytes sizeAt hashAt syndromeAt bitsAt answerFields readAnswer withinLimits isqrt place hashOf laterStage effect firstStage top popped pushed restaged retried splitAt planned holderSound isBlank blankFrom pieceFits inOrder rowsLeft asksLeft stageFits topFits stackSound openingSound piecesSound wholeSound sound sameBitCount sends holderCall rebuilderStart tallied effectStep openingStep wholeStep stepOf rebuilderCall
 demo = record { example = refl; house = refl; empty = refl; no-take-out = refl; collision = refl; anchor = refl; three-anchors = refl; at-ceiling = refl; past-ceiling = refl; started = refl; all-calls = refl }

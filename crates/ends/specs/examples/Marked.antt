@@ -5,13 +5,11 @@ use mathlib.Core.List.{List, [], _∷_}
 use mathlib.Core.Option.{none, some}
 use Prim.Native.Nat.{ℕ, _%_}
 use Rattle.strings.specs.Bits.{bitAt, range}
-use Rattle.strings.specs.Refusals.{refusalNumber}
+use Rattle.strings.specs.Results.{Result, refusal, value}
 use Rattle.codes.specs.Syndrome.{syndrome}
 use Rattle.codes.specs.Repair.{insertions, deletions, withSyndrome, putIn, takeOut}
-use Rattle.codes.specs.Hash.{xorLeft, xorRight, step, row, hashFrom, hash}
-use Rattle.messages.specs.declared.numbers.NumberRead.{NumberRead}
-use Rattle.messages.specs.declared.numbers.NumberRead.the-variants.{Value, NoNumber}
-use Rattle.messages.specs.Numbers.{groups, number, nextByte, numberAt}
+use Rattle.codes.specs.Hash.{xorLeft, xorRight, xorshift, hashRow, hashFrom, hash}
+use Rattle.messages.specs.Numbers.{groups, number, nextByte, numberAt, twoAt, threeAt}
 
 -- the strings of the samples, as bits of their packed bytes
 abbrev bits101 : List Bool
@@ -21,9 +19,9 @@ abbrev bits1011 : List Bool
 bits1011 = true ∷ false ∷ true ∷ true ∷ []
 
 -- the number of the refusal that reading gave; 0 for a number read
-abbrev refusalOf : NumberRead → ℕ
-refusalOf (Value v at) = 0
-refusalOf (NoNumber e) = refusalNumber e
+abbrev refusalOf : Result (ℕ × ℕ) → ℕ
+refusalOf (refusal number) = number
+refusalOf (value n) = 0
 
 pub record MarkedSamples : Type 0 where
   -- M1 to M5: 101 put in with syndrome 0, 1, 2, 3, 4 gives 1001, 0101, 1101, 1011, 1010
@@ -40,10 +38,10 @@ pub record MarkedSamples : Type 0 where
   pub m8 : takeOut 0 bits1011 ≡ some bits101
   pub m9 : takeOut 3 bits1011 ≡ none
   -- M10: key 1, h 8: rows end in hexadecimal 21, 01, c5, 4f; 1011 hashes to ab
-  pub m10-row1 : row 1 1 % 256 ≡ 0x21
-  pub m10-row2 : row 1 2 % 256 ≡ 0x01
-  pub m10-row3 : row 1 3 % 256 ≡ 0xc5
-  pub m10-row4 : row 1 4 % 256 ≡ 0x4f
+  pub m10-row1 : hashRow 1 1 % 256 ≡ 0x21
+  pub m10-row2 : hashRow 1 2 % 256 ≡ 0x01
+  pub m10-row3 : hashRow 1 3 % 256 ≡ 0xc5
+  pub m10-row4 : hashRow 1 4 % 256 ≡ 0x4f
   pub m10-hash : hash 8 1 bits1011 ≡ 0xab
   -- M11: 127 is 7f, 128 is 80 01
   pub m11-127 : number 127 ≡ 0x7f ∷ []
@@ -56,7 +54,7 @@ pub record MarkedSamples : Type 0 where
   pub packed1011 : range (0xb0 ∷ []) 0 4 ≡ bits1011
 
 pub marked-samples : MarkedSamples
-unfolding putIn takeOut withSyndrome insertions deletions syndrome row step xorLeft xorRight hash hashFrom groups number nextByte numberAt bitAt range
+unfolding putIn takeOut withSyndrome insertions deletions syndrome hashRow xorshift xorLeft xorRight hash hashFrom groups number nextByte numberAt twoAt threeAt bitAt range
 marked-samples =
     record {
       m1 = refl;

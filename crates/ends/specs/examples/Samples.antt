@@ -5,13 +5,13 @@ use mathlib.Core.List.{List, [], _∷_, _++_, map}
 use mathlib.Core.Option.{Option, none, some}
 use Prim.Native.Nat.{ℕ}
 use lib.ListN.{take, set, replicate}
+use Rattle.strings.specs.Results.{Result, refusal, value}
 use Rattle.strings.specs.Bits.{bitAt, range, flipped, setBit, writeBits, pack, cleared, sameBits}
 use Rattle.strings.specs.StringRule.{noneSet, stringRule}
-use Rattle.strings.specs.Refusals.{refusalNumber}
 use Rattle.codes.specs.Syndrome.{syndrome}
 use Rattle.codes.specs.Repair.{insertions, withSyndrome, putIn}
-use Rattle.codes.specs.Hash.{xorLeft, xorRight, step, hashFrom, hash}
-use Rattle.messages.specs.Numbers.{groups, number, nextByte, numberAt}
+use Rattle.codes.specs.Hash.{xorLeft, xorRight, xorshift, hashFrom, hash}
+use Rattle.messages.specs.Numbers.{groups, number, nextByte, numberAt, twoAt, threeAt}
 use Rattle.messages.specs.declared.Question.the-variants.{AskBits}
 use Rattle.messages.specs.Kinds.{kindAt}
 use Rattle.messages.specs.Questions.{openingAt, rangeAt, fieldsAt}
@@ -28,8 +28,8 @@ use Rattle.ends.specs.Segments.{dropped, waiting, settled, hashOf, later
 use Rattle.ends.specs.Runs.{sizeOf, working, whole, judge, blank}
 use Rattle.ends.specs.States.{noPiece, top, popped, restaged, retried, planned}
 use Rattle.ends.specs.Soundness.{holderSound, isBlank, blankFrom, pieceFits, inOrder, rowsLeft, asksLeft, stageFits, stackSound, topFits, openingSound, piecesSound, wholeSound, sound}
-use Rattle.ends.specs.HolderCall.{Heard, declines, replies, freshHolder, sameBitCount, sends, holderCall}
-use Rattle.ends.specs.RebuilderCall.{Started, startDeclines, starts, rebuilderStart, Taken, refuses, takes, Rooms, clears, writes, stringAfter, sheetAfter, tallied, effectStep, stepOf, rebuilderCall, freshRebuilder}
+use Rattle.ends.specs.HolderCall.{replies, freshHolder, sameBitCount, sends, holderCall}
+use Rattle.ends.specs.RebuilderCall.{rebuilderStart, Rooms, clears, writes, stringAfter, sheetAfter, tallied, effectStep, stepOf, rebuilderCall, freshRebuilder}
 use Rattle.ends.specs.declared.Stage.{Stage}
 use Rattle.ends.specs.declared.Stage.the-variants.{Anchor, AllBits, Hashing, PuttingIn, TakingOut}
 use Rattle.ends.specs.declared.Attempt.the-variants.{First, Second, Third}
@@ -88,27 +88,19 @@ abbrev row : (start len how : ℕ) → Row
 row s l w = record { start = s; len = l; how = w }
 
 -- ---- the number with which a call is turned down; 0 for one that is taken
-abbrev startedNumber : Started → ℕ
-startedNumber (startDeclines e) = refusalNumber e
-startedNumber (starts st q) = 0
-
-abbrev heardNumber : Heard → ℕ
-heardNumber (declines e) = refusalNumber e
-heardNumber (replies H m) = 0
-
-abbrev takenNumber : Taken → ℕ
-takenNumber (refuses e) = refusalNumber e
-takenNumber (takes s q) = 0
+abbrev numberOf : {A : Type 0} → Result A → ℕ
+numberOf (refusal number) = number
+numberOf (value a) = 0
 
 -- the start on Y with a question buffer of 8 bytes; the holder's call for X 1011; the rebuilder's call for Y 101
 abbrev startRefusal : (y : List ℕ) (bits : ℕ) → ℕ
-startRefusal y bits = startedNumber (rebuilderStart eight y bits 8)
+startRefusal y bits = numberOf (rebuilderStart eight y bits 8)
 
 abbrev holderRefusal : Holder → (room : ℕ) → (message : List ℕ) → ℕ
-holderRefusal H room m = heardNumber (holderCall H (0xb0 ∷ []) 4 m room)
+holderRefusal H room m = numberOf (holderCall H (0xb0 ∷ []) 4 m room)
 
 abbrev rebuilderRefusal : Rebuilder → Rooms → (message : List ℕ) → ℕ
-rebuilderRefusal st r m = takenNumber (rebuilderCall st (0xa0 ∷ []) 3 m r)
+rebuilderRefusal st r m = numberOf (rebuilderCall st (0xa0 ∷ []) 3 m r)
 
 pub record Samples : Type 0 where
   -- Settings: m 8 to 64, h 8 to 32, k 1 to 8, key 1 to 2^32 - 1, ceiling 0 to 16,384
@@ -164,13 +156,13 @@ pub record Samples : Type 0 where
   pub sheet-add : sheetAfter (replicate 3 (row 9 9 9)) (AddRow 1 (row 0 4 5)) ≡ row 9 9 9 ∷ row 0 4 5 ∷ row 9 9 9 ∷ []
   pub sheet-one : map (λ (used : ℕ). sheetAfter (replicate 3 (row 9 9 9)) (OneRow used (row 0 4 5))) (0 ∷ 2 ∷ []) ≡ (row 0 4 5 ∷ row 9 9 9 ∷ row 9 9 9 ∷ []) ∷ (row 0 4 5 ∷ row 0 0 0 ∷ row 9 9 9 ∷ []) ∷ []
   -- Refusals of the start, in their order: 1, 2, 9; the question buffer needs 8 bytes
-  pub start-order : map startedNumber (rebuilderStart (settings 7 8 1 1 100) (0xb0 ∷ []) 3 0 ∷ rebuilderStart eight (0xb0 ∷ []) 3 0 ∷ rebuilderStart eight (0xa0 ∷ []) 3 7 ∷ rebuilderStart eight (0xa0 ∷ []) 3 8 ∷ []) ≡ 1 ∷ 2 ∷ 9 ∷ 0 ∷ []
+  pub start-order : map numberOf (rebuilderStart (settings 7 8 1 1 100) (0xb0 ∷ []) 3 0 ∷ rebuilderStart eight (0xb0 ∷ []) 3 0 ∷ rebuilderStart eight (0xa0 ∷ []) 3 7 ∷ rebuilderStart eight (0xa0 ∷ []) 3 8 ∷ []) ≡ 1 ∷ 2 ∷ 9 ∷ 0 ∷ []
   -- a string has 0 to 65,536 bits in exactly ceil(bits/8) bytes, spare bits zero
   pub string-bytes : startRefusal [] 0 ∷ startRefusal (0x00 ∷ []) 0 ∷ startRefusal (0xff ∷ []) 8 ∷ startRefusal (0xff ∷ []) 9 ∷ [] ≡ 0 ∷ 2 ∷ 0 ∷ 2 ∷ []
   pub string-spare : startRefusal (0xff ∷ 0x80 ∷ []) 9 ∷ startRefusal (0xff ∷ 0x40 ∷ []) 9 ∷ [] ≡ 0 ∷ 2 ∷ []
   pub string-most : startRefusal (replicate 8192 0) 65536 ∷ startRefusal (replicate 8193 0) 65537 ∷ [] ≡ 0 ∷ 2 ∷ []
   -- Refusals of the holder's call: 2 before 3: the string rule, and the bit count of the opening
-  pub holder-string : heardNumber (holderCall (holder true 4 8 1 0) (0xb8 ∷ []) 4 [] 0) ∷ holderRefusal (holder true 5 8 1 1) 0 [] ∷ [] ≡ 2 ∷ 2 ∷ []
+  pub holder-string : numberOf (holderCall (holder true 4 8 1 0) (0xb8 ∷ []) 4 [] 0) ∷ holderRefusal (holder true 5 8 1 1) 0 [] ∷ [] ≡ 2 ∷ 2 ∷ []
   -- 3 before the message, here empty: an unsound state; at most 1,000,000 answers
   pub holder-state : map (λ (H : Holder). holderRefusal H 9 []) (holder true 4 8 1 0 ∷ holder false 0 0 0 1 ∷ holder true 4 7 1 1 ∷ holder true 4 33 1 1 ∷ holder true 4 8 0 1 ∷ holder true 4 8 1 1 ∷ []) ≡ 3 ∷ 3 ∷ 3 ∷ 3 ∷ 3 ∷ 4 ∷ []
   pub holder-answers : map (λ (answers : ℕ). holderRefusal (holder true 4 8 1 answers) 9 []) (0 ∷ 1 ∷ 999999 ∷ 1000000 ∷ 1000001 ∷ []) ≡ 3 ∷ 4 ∷ 4 ∷ 3 ∷ 3 ∷ []
@@ -189,7 +181,7 @@ pub record Samples : Type 0 where
   pub opening-key : map (λ (key : List ℕ). holderRefusal freshHolder 9 (0x00 ∷ 0x01 ∷ 0x08 ∷ key)) ((0x00 ∷ []) ∷ (0x01 ∷ []) ∷ (0xff ∷ 0xff ∷ 0xff ∷ 0xff ∷ 0x0f ∷ []) ∷ (0xff ∷ 0xff ∷ 0xff ∷ 0xff ∷ 0x10 ∷ []) ∷ []) ≡ 8 ∷ 0 ∷ 0 ∷ 5 ∷ []
   pub opening-room : holderRefusal freshHolder 9 (0x00 ∷ 0x02 ∷ 0x08 ∷ 0x01 ∷ 0x00 ∷ []) ∷ map (λ (room : ℕ). holderRefusal freshHolder room (0x00 ∷ 0x01 ∷ 0x08 ∷ 0x01 ∷ [])) (1 ∷ 2 ∷ []) ≡ 7 ∷ 9 ∷ 0 ∷ []
   -- Refusals of the rebuilder's call: 2 before 3; 3 before the message: finished, or unsound
-  pub call-string : map takenNumber (rebuilderCall finished (0xb0 ∷ []) 3 [] (rooms 0 0 0) ∷ rebuilderCall finished (0xa0 ∷ []) 4 [] (rooms 0 0 0) ∷ []) ≡ 2 ∷ 2 ∷ []
+  pub call-string : map numberOf (rebuilderCall finished (0xb0 ∷ []) 3 [] (rooms 0 0 0) ∷ rebuilderCall finished (0xa0 ∷ []) 4 [] (rooms 0 0 0) ∷ []) ≡ 2 ∷ 2 ∷ []
   pub call-state : map (λ (st : Rebuilder). rebuilderRefusal st (rooms 0 0 0) []) (finished ∷ atStage PuttingIn ∷ atStage (Anchor First) ∷ atStage Hashing ∷ []) ≡ 3 ∷ 4 ∷ 3 ∷ 3 ∷ []
   -- 4, 5, 6 as met, 6 for another kind than the one awaited; then 7, 8, 9
   pub call-order : map (rebuilderRefusal (freshRebuilder eight 3) (rooms 0 0 0)) ([] ∷ (0x01 ∷ []) ∷ (0x04 ∷ []) ∷ (0x00 ∷ []) ∷ (0x00 ∷ 0x80 ∷ []) ∷ (0x00 ∷ 0x80 ∷ 0x00 ∷ []) ∷ (0x00 ∷ 0x81 ∷ 0x80 ∷ 0x04 ∷ 0x00 ∷ []) ∷ (0x00 ∷ 0x81 ∷ 0x80 ∷ 0x04 ∷ []) ∷ (0x00 ∷ 0x04 ∷ []) ∷ []) ≡ 4 ∷ 6 ∷ 6 ∷ 4 ∷ 4 ∷ 5 ∷ 7 ∷ 8 ∷ 9 ∷ []
@@ -218,5 +210,5 @@ pub record Samples : Type 0 where
   pub sound-whole : map (λ (counted : ℕ). sound (state AtWhole 4 1 counted 0 PuttingIn 1)) (100 ∷ 101 ∷ 109 ∷ 110 ∷ []) ≡ false ∷ true ∷ true ∷ false ∷ []
 
 pub samples : Samples
-unfolding bitAt range flipped setBit writeBits pack cleared sameBits noneSet stringRule syndrome insertions withSyndrome putIn xorLeft xorRight step hashFrom hash groups number nextByte numberAt kindAt openingAt rangeAt fieldsAt answerBytes sizeAt syndromeAt bitsAt answerFields readAnswer withinLimits isqrt place hashOf laterStage firstStage begin effect sizeOf judge top popped restaged retried planned holderSound isBlank blankFrom pieceFits inOrder rowsLeft asksLeft stageFits topFits stackSound openingSound piecesSound wholeSound sound sameBitCount sends holderCall rebuilderStart tallied effectStep stepOf rebuilderCall
+unfolding bitAt range flipped setBit writeBits pack cleared sameBits noneSet stringRule syndrome insertions withSyndrome putIn xorLeft xorRight xorshift hashFrom hash groups number nextByte numberAt twoAt threeAt kindAt openingAt rangeAt fieldsAt answerBytes sizeAt syndromeAt bitsAt answerFields readAnswer withinLimits isqrt place hashOf laterStage firstStage begin effect sizeOf judge top popped restaged retried planned holderSound isBlank blankFrom pieceFits inOrder rowsLeft asksLeft stageFits topFits stackSound openingSound piecesSound wholeSound sound sameBitCount sends holderCall rebuilderStart tallied effectStep stepOf rebuilderCall
 samples = record { limit-m = refl; limit-h = refl; limit-k = refl; limit-key = refl; limit-ceiling = refl; house = refl; roots = refl; window = refl; tie = refl; window-67 = refl; window-65 = refl; tie-67 = refl; window-63 = refl; window-k-2 = refl; last-place = refl; below-0 = refl; small-p = refl; small-m-16 = refl; small-h-16 = refl; small-most = refl; small-q = refl; first-10 = refl; first-100 = refl; first-1 = refl; first-2 = refl; empty-piece = refl; answer-bytes = refl; ceiling = refl; ceiling-settled = refl; ceiling-phase = refl; zeroed = refl; written = refl; sheet-add = refl; sheet-one = refl; start-order = refl; string-bytes = refl; string-spare = refl; string-most = refl; holder-string = refl; holder-state = refl; holder-answers = refl; last-answer = refl; kind-unopened = refl; kind-opened = refl; fields = refl; reply-room = refl; ranges = refl; opening-version = refl; opening-h = refl; opening-key = refl; opening-room = refl; call-string = refl; call-state = refl; call-order = refl; rooms-most = refl; rooms-0 = refl; rooms-7 = refl; rooms-8 = refl; rooms-9 = refl; rooms-last = refl; syndrome-answers = refl; bits-answers = refl; trial = refl; trial-next = refl; sound-phase = refl; sound-n = refl; sound-answered = refl; sound-counted = refl; sound-rows = refl; sound-stage = refl; sound-waiting = refl; sound-whole = refl }

@@ -1,6 +1,6 @@
 -- The question that a state asks, the answers that its call reads, and what a taken call shows.
 use mathlib.Core.Path.{_≡_, refl, sym, ap, _∙_}
-use mathlib.Core.Bool.{Bool, true, false, cond, _&&_}
+use mathlib.Core.Bool.{true, cond, _&&_}
 use mathlib.Core.List.{List}
 use mathlib.Core.Option.{Option, none, some}
 use Prim.Native.Nat.{ℕ, zero, suc, _+_, _-_, _*_}
@@ -8,13 +8,14 @@ use native.Mathlib.Omega.{arith}
 use lib.ListN.{length, getD}
 use lib.Dec.{eqb}
 use borrow.Author.Tests.{ne-eqb}
+use Rattle.strings.specs.laws.ResultLaws.{no-value, unless-passed, then-passed, value-is}
+use Rattle.strings.specs.Refusals.{refusalNumber}
+use Rattle.strings.specs.Results.{value}
 use Rattle.messages.specs.laws.AnswerLaws.{answer-form}
-use Rattle.messages.specs.Answers.{Answer, answerValue, bitsAnswer, hashAnswer, readAnswer, sizeAnswer, syndromeAnswer}
+use Rattle.messages.specs.Answers.{Answer, readAnswer}
 use Rattle.messages.specs.Questions.{questionKind}
-use Rattle.messages.specs.declared.AnswerRead.{AnswerRead}
-use Rattle.messages.specs.declared.AnswerRead.the-variants.{IsBits, IsHash, IsSize, IsSyndrome, NoAnswer}
 use Rattle.messages.specs.declared.Question.{Question}
-use Rattle.ends.specs.RebuilderCall.{Rooms, Step, Taken, awaits, bitsKnown, given, hears, questionLength, rebuilderCall, roomFor, stepOf, takes, unlessTaken, writtenQuestion}
+use Rattle.ends.specs.RebuilderCall.{Rooms, Step, awaits, bitsKnown, given, questionLength, rebuilderCall, roomFor, stepOf, takes, writtenQuestion, Taken}
 use Rattle.ends.specs.Runs.{sizeOf}
 use Rattle.ends.specs.Segments.{asks, step}
 use Rattle.ends.specs.laws.SoundSteps.{step-sound}
@@ -26,10 +27,8 @@ use Rattle.ends.specs.declared.Piece.{Piece}
 use Rattle.ends.specs.declared.Rebuilder.{Rebuilder}
 use Rattle.ends.specs.declared.Row.{Row}
 use Rattle.strings.specs.declared.settings.Settings.{Settings}
-use Rattle.strings.specs.Bits.{range}
 use Rattle.strings.specs.laws.PackLaws.{Bytes}
 use Rattle.strings.specs.StringRule.{stringRule}
-use Rattle.strings.specs.declared.Refusal.{Refusal}
 use Rattle.strings.specs.declared.Refusal.the-variants.{BadString, BufferTooShort, OutOfTurn}
 use Rattle.ends.specs.declared.Stage.{Stage}
 use Rattle.ends.specs.declared.Phase.{Phase}
@@ -51,56 +50,36 @@ asks-planned {S} {st = st} {s = s} h = go (st .phase) ∙ sym (ap (askStore S) (
     go AtPieces = rw (h .settings) (ask-top (st .waiting) (st .pieces) (st .stage))
     go AtWhole = refl
 
--- ---- the holder's answers are read
--- an answer that was read is the one that its value says
-pub hears-value : (st : Rebuilder) (y msg : List ℕ) (rooms : Rooms) (len : ℕ) (a : Answer) (r : AnswerRead) → answerValue msg len r ≡ some a → hears st y msg rooms len r ≡ given st y msg rooms a
-hears-value st y msg rooms len a (IsSize n) e = let d : sizeAnswer n ≡ a = cc in ap (given st y msg rooms) d
-hears-value st y msg rooms len a (IsHash v) e = let d : hashAnswer v ≡ a = cc in ap (given st y msg rooms) d
-hears-value st y msg rooms len a (IsSyndrome b v) e = let d : syndromeAnswer b v ≡ a = cc in ap (given st y msg rooms) d
-hears-value st y msg rooms len a (IsBits at) e = let d : bitsAnswer (range msg (8 * at) len) ≡ a = cc in ap (given st y msg rooms) d
-hears-value st y msg rooms len a (NoAnswer x) e = let z : _≡_ {A = ℕ} 0 1 = cc in absurd (omega arith)
-
 -- ---- a call that was taken
 pub record TakenCall (st : Rebuilder) (y : List ℕ) (msg : List ℕ) (rooms : Rooms) (step : Step) (next : List ℕ) : Type 0 where
   pub sound-before : sound st ≡ true
   pub q : Question
   pub asked : planned st ≡ some q
   pub a : Answer
-  pub read : answerValue msg (questionLength q) (readAnswer (questionKind q) (questionLength q) (st .settings .h) msg) ≡ some a
+  pub read : readAnswer (questionKind q) (questionLength q) (st .settings .h) msg ≡ value a
   pub room : roomFor st (bitsKnown st a) rooms ≡ true
   pub steps : step ≡ stepOf st y (length msg) a
   pub asks : next ≡ writtenQuestion (planned (stepOf st y (length msg) a .state))
-
-pub unless-taken : (t : Bool) (e : Refusal) (k : Taken) (s : Step) (m : List ℕ) → unlessTaken t e k ≡ takes s m → (t ≡ true) × (k ≡ takes s m)
-unless-taken true e k s m h = (refl, h)
-unless-taken false e k s m h = let z : _≡_ {A = ℕ} 0 1 = cc in absurd (omega arith)
 
 module _ (st : Rebuilder) (y : List ℕ) (bits : ℕ) (msg : List ℕ) (rooms : Rooms) (step : Step) (next : List ℕ) where
   given-taken : (a : Answer) → given st y msg rooms a ≡ takes step next
       → (roomFor st (bitsKnown st a) rooms ≡ true) × (step ≡ stepOf st y (length msg) a) × (next ≡ writtenQuestion (planned (stepOf st y (length msg) a .state)))
   given-taken a e =
-      let u = unless-taken (roomFor st (bitsKnown st a) rooms) BufferTooShort (takes (stepOf st y (length msg) a) (writtenQuestion (planned (stepOf st y (length msg) a .state)))) step next e in
-      let f = u .1 in
-      (u .0, (cc), (cc))
-
-  heard-taken : (len : ℕ) (r : AnswerRead) → hears st y msg rooms len r ≡ takes step next → (a : Answer) × (answerValue msg len r ≡ some a) × (given st y msg rooms a ≡ takes step next)
-  heard-taken len (IsSize n) e = (sizeAnswer n, refl, e)
-  heard-taken len (IsHash v) e = (hashAnswer v, refl, e)
-  heard-taken len (IsSyndrome b v) e = (syndromeAnswer b v, refl, e)
-  heard-taken len (IsBits at) e = (bitsAnswer (range msg (8 * at) len), refl, e)
-  heard-taken len (NoAnswer x) e = let z : _≡_ {A = ℕ} 0 1 = cc in absurd (omega arith)
+      let u = unless-passed (roomFor st (bitsKnown st a) rooms) BufferTooShort _ _ e in
+      let f = value-is (u .1) in
+      (u .0, sym (ap (λ (z : Taken). z .step) f), sym (ap (λ (z : Taken). z .question) f))
 
   pub taken-call : rebuilderCall st y bits msg rooms ≡ takes step next → TakenCall st y msg rooms step next
   unfolding rebuilderCall
   taken-call e =
-      let u = unless-taken (stringRule y bits && eqb (st .ybits) bits) BadString _ step next e in
-      let v = unless-taken (sound st) OutOfTurn _ step next (u .1) in
+      let u = unless-passed (stringRule y bits && eqb (st .ybits) bits) BadString _ _ e in
+      let v = unless-passed (sound st) OutOfTurn _ _ (u .1) in
       go (v .0) (planned st) refl (v .1)
     where
       go : sound st ≡ true → (o : Option Question) → planned st ≡ o → awaits st y msg rooms o ≡ takes step next → TakenCall st y msg rooms step next
-      go s none k f = let z : _≡_ {A = ℕ} 0 1 = cc in absurd (omega arith)
+      go s none k f = absurd (no-value (refusalNumber OutOfTurn) _ f)
       go s (some q) k f =
-          let h = heard-taken (questionLength q) (readAnswer (questionKind q) (questionLength q) (st .settings .h) msg) f in
+          let h = then-passed (readAnswer (questionKind q) (questionLength q) (st .settings .h) msg) (given st y msg rooms) _ f in
           let g = given-taken (h .0) (h .2) in
           record { sound-before = s; q = q; asked = k; a = h .0; read = h .1; room = g .0; steps = g .1; asks = g .2 }
 

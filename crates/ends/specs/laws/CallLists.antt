@@ -11,21 +11,21 @@ use lib.ListN.{length}
 use lib.Dec.{leb}
 use borrow.Author.Tests.{eq-eqb, le-leb, lt-ltb}
 use Rattle.messages.specs.laws.AnswerLaws.{answer-reads}
-use Rattle.messages.specs.Answers.{Answer, answerBytes, answerValue, readAnswer}
+use Rattle.messages.specs.Answers.{Answer, answerBytes, readAnswer}
 use Rattle.messages.specs.laws.QuestionLaws.{InRange, empty-no-question, question-fields-read, question-kind-reads, question-known, question-reads}
 use Rattle.messages.specs.Questions.{questionBytes, questionKind, readQuestion}
 use Rattle.messages.specs.declared.Question.{Question}
 use Rattle.messages.specs.declared.Question.the-variants.{AskBits, AskHash, AskOpen, AskSyndrome}
-use Rattle.messages.specs.declared.QuestionRead.the-variants.{Asked}
-use Rattle.ends.specs.laws.Asking.{asks-planned, hears-value}
+use Rattle.strings.specs.Results.{Result, refusal, value}
+use Rattle.ends.specs.laws.Asking.{asks-planned}
 use Rattle.ends.specs.laws.Delivery.{NotOpen, NotOpening, StartedIs, advanced, inside-range, later-not-open, length-most, sheet-length-after, started-is, step-answered, string-length-after}
-use Rattle.ends.specs.HolderCall.{Heard, afterAnswer, declines, freshHolder, holderCall, inTurn, replies, sameBitCount, sends}
+use Rattle.ends.specs.HolderCall.{afterAnswer, freshHolder, holderCall, inTurn, replies, sameBitCount, sends, Reply}
 use Rattle.ends.specs.laws.HolderLaws.{Made, OpenedIs, counts, fresh-holder-sound, heard-call, heard-made, holder-sound, opened-sound, opens, same-count}
 use Rattle.ends.specs.laws.Invariant.{Truth, proper-now, question-inside, run-ok, sizeOfRun}
 use Rattle.ends.specs.laws.Kept.{bytesOf, count-is, kept}
 use Rattle.ends.specs.Claims.{rowsAtFront, zeroed, zeroedNext}
 use Rattle.strings.specs.SettingLimits.{Limits}
-use Rattle.ends.specs.RebuilderCall.{Step, Taken, bitsKnown, freshRebuilder, questionLength, rebuilderCall, refuses, roomFor, sheetAfter, stepOf, stringAfter, takes, writtenQuestion}
+use Rattle.ends.specs.RebuilderCall.{Step, Taken, bitsKnown, freshRebuilder, questionLength, rebuilderCall, roomFor, sheetAfter, stepOf, stringAfter, takes, writtenQuestion}
 use Rattle.ends.specs.Runs.{Honest, Run, advance, answer, countOf, opening, piecesOf, question, run, sheetOf, sizeOf, string, told, whole, working, full}
 use Rattle.ends.specs.Segments.{asks, settled}
 use Rattle.ends.specs.laws.Shape.{Inside, Proper, sizes}
@@ -186,11 +186,10 @@ module _ (c : Lent) (r₀ : Rebuilder) (q₀ : List ℕ) (bs₀ : List ℕ) (sh�
         let pl : planned r ≡ some q = planned-is r bs sh w l k ∙ wq in
         let rg = in-range l (k .honest) q wq in
         let st : r .settings .h ≡ S .h = ap (λ (z : Settings). z .h) (k .stands .settings) in
-        let rd : answerValue m (questionLength q) (readAnswer (questionKind q) (questionLength q) (r .settings .h) m) ≡ some a =
-        ap (λ (z : ℕ). answerValue m (questionLength q) (readAnswer (questionKind q) (questionLength q) z m)) st
+        let rd : readAnswer (questionKind q) (questionLength q) (r .settings .h) m ≡ value a =
+        ap (λ (z : ℕ). readAnswer (questionKind q) (questionLength q) z m) st
         ∙ answer-reads (questionLength q) (S .h) (length-most (c .xbits) q x-few rg) (L .h-most) (questionKind q) a (proper l (k .honest) q wq) in
-        let hv = hears-value r (c .y) m (roomsOf c bs sh) (questionLength q) a (readAnswer (questionKind q) (questionLength q) (r .settings .h) m) rd in
-        rw (begun .string, eq-eqb (r .ybits) (c .ybits) yb, k .sound-now, pl, hv, room-true) refl
+        rw (begun .string, eq-eqb (r .ybits) (c .ybits) yb, k .sound-now, pl, rd, room-true) refl
 
     -- and then stands for the run with this answer
     pub rep-next : Rep (next .state) (stringAfter bs (next .string)) (sheetAfter sh (next .sheet)) (writtenQuestion (planned (next .state))) (a ∷ l)
@@ -221,25 +220,25 @@ module _ (c : Lent) (r₀ : Rebuilder) (q₀ : List ℕ) (bs₀ : List ℕ) (sh�
   -- it has taken nothing, or has opened by one of the messages that it took
   pub data HolderIs (H : Holder) (hs : List (List ℕ)) : Type 0 where
     unopened : H ≡ freshHolder → hs ≡ [] → HolderIs H hs
-    hasOpened : OpenedIs H → H .bits ≡ c .xbits → H .answers ≡ length hs → (m : List ℕ) → Member m hs → readQuestion m (c .xbits) ≡ Asked (AskOpen (H .h) (H .key)) → HolderIs H hs
+    hasOpened : OpenedIs H → H .bits ≡ c .xbits → H .answers ≡ length hs → (m : List ℕ) → Member m hs → readQuestion m (c .xbits) ≡ value (AskOpen (H .h) (H .key)) → HolderIs H hs
 
   holder-step : (H H′ : Holder) (hs : List (List ℕ)) (m b : List ℕ) → HolderIs H hs → holderCall H (c .x) (c .xbits) m (c .replyRoom) ≡ replies H′ b → HolderIs H′ (m ∷ hs)
   holder-step H H′ hs m b i e =
       let k = heard-call H (c .x) (c .xbits) m (c .replyRoom) H′ b e in
       let o = holder-sound H (c .x) (c .xbits) m (c .replyRoom) H′ b e in
-      let rq : readQuestion m (c .xbits) ≡ Asked (k .q) = question-known m (c .xbits) (k .known) ∙ k .fields in
+      let rq : readQuestion m (c .xbits) ≡ value (k .q) = question-known m (c .xbits) (k .known) ∙ k .fields in
       go (k .q) rq o i (heard-made H (c .x) (c .xbits) m (c .replyRoom) H′ b k)
     where
-      go : (q : Question) → readQuestion m (c .xbits) ≡ Asked q → OpenedIs H′ → HolderIs H hs → Made H (c .xbits) q H′ → HolderIs H′ (m ∷ hs)
+      go : (q : Question) → readQuestion m (c .xbits) ≡ value q → OpenedIs H′ → HolderIs H hs → Made H (c .xbits) q H′ → HolderIs H′ (m ∷ hs)
       go q rq o (unopened f n) (opens z h key d w e) =
           hasOpened o (ap (λ (s : Holder). s .bits) e) (ap (λ (s : Holder). s .answers) e ∙ sym (ap (λ (k : List (List ℕ)). suc (length k)) n)) m (inl refl)
-          (rq ∙ ap Asked (sym d) ∙ sym (ap₂ (λ (u v : ℕ). Asked (AskOpen u v)) (ap (λ (s : Holder). s .h) e) (ap (λ (s : Holder). s .key) e)))
+          (rq ∙ ap value (sym d) ∙ sym (ap₂ (λ (u v : ℕ). value (AskOpen u v)) (ap (λ (s : Holder). s .h) e) (ap (λ (s : Holder). s .key) e)))
       go q rq o (unopened f n) (counts z w e) = absurd (true-false (sym z ∙ ap (λ (s : Holder). s .opened) f))
       go q rq o (hasOpened p bt an m₀ mem rd) (opens z h key d w e) = absurd (true-false (sym (p .opened) ∙ z))
       go q rq o (hasOpened p bt an m₀ mem rd) (counts z w e) =
           let a : H′ .answers ≡ H .answers + 1 = ap (λ (s : Holder). s .answers) e in
           hasOpened o (ap (λ (s : Holder). s .bits) e ∙ bt) (omega arith) m₀ (inr mem)
-          (rd ∙ sym (ap₂ (λ (u v : ℕ). Asked (AskOpen u v)) (ap (λ (s : Holder). s .h) e) (ap (λ (s : Holder). s .key) e)))
+          (rd ∙ sym (ap₂ (λ (u v : ℕ). value (AskOpen u v)) (ap (λ (s : Holder). s .h) e) (ap (λ (s : Holder). s .key) e)))
 
   -- an earlier question was in range, and opens only if it is the rebuilder's own opening
   earlier-range : (l : List Answer) → Honest S X Y l → (q : Question) → Earlier S Y l q → InRange (c .xbits) q
@@ -253,12 +252,12 @@ module _ (c : Lent) (r₀ : Rebuilder) (q₀ : List ℕ) (bs₀ : List ℕ) (sh�
   earlier-open (a ∷ []) h key (inl e) = (cc, cc)
   earlier-open (a ∷ b ∷ l) h key (inl e) = absurd (later-not-open S (run S Y (b ∷ l)) (AskOpen h key) (advanced S Y (run S Y l) b) e)
 
-  same-opening : (H : Holder) (l : List Answer) (m : List ℕ) → Honest S X Y l → (q : Question) × Earlier S Y l q × (m ≡ questionBytes q) → readQuestion m (c .xbits) ≡ Asked (AskOpen (H .h) (H .key))
+  same-opening : (H : Holder) (l : List Answer) (m : List ℕ) → Honest S X Y l → (q : Question) × Earlier S Y l q × (m ≡ questionBytes q) → readQuestion m (c .xbits) ≡ value (AskOpen (H .h) (H .key))
       → (H .h ≡ S .h) × (H .key ≡ S .key)
   same-opening H l m h e rd =
       let q = e .0 in
-      let rr : readQuestion (questionBytes (e .0)) (c .xbits) ≡ Asked (e .0) = question-reads (e .0) (c .xbits) x-few (earlier-range l h (e .0) (e .1)) in
-      let rm : readQuestion m (c .xbits) ≡ Asked (e .0) = ap (λ (z : List ℕ). readQuestion z (c .xbits)) (e .2) ∙ rr in
+      let rr : readQuestion (questionBytes (e .0)) (c .xbits) ≡ value (e .0) = question-reads (e .0) (c .xbits) x-few (earlier-range l h (e .0) (e .1)) in
+      let rm : readQuestion m (c .xbits) ≡ value (e .0) = ap (λ (z : List ℕ). readQuestion z (c .xbits)) (e .2) ∙ rr in
       let d : e .0 ≡ AskOpen (H .h) (H .key) = cc in
       earlier-open l (H .h) (H .key) (rw d at (e .1))
 
@@ -314,11 +313,11 @@ module _ (c : Lent) (r₀ : Rebuilder) (q₀ : List ℕ) (bs₀ : List ℕ) (sh�
     where
       go : (o : Option Question) → question S (run S Y l) ≡ o → (q : Question) × (question S (run S Y l) ≡ some q) × (m ≡ answerBytes (told S X q))
       go none k =
-          let z : readQuestion [] (c .xbits) ≡ Asked (f .0) = ap (λ (u : List ℕ). readQuestion u (c .xbits)) (sym (e ∙ ap writtenQuestion k)) ∙ f .1 in
+          let z : readQuestion [] (c .xbits) ≡ value (f .0) = ap (λ (u : List ℕ). readQuestion u (c .xbits)) (sym (e ∙ ap writtenQuestion k)) ∙ f .1 in
           absurd (empty-no-question (c .xbits) (f .0) z)
       go (some q) k =
           let r = question-reads q (c .xbits) x-few (in-range l h q k) in
-          let z : readQuestion (questionBytes q) (c .xbits) ≡ Asked (f .0) = ap (λ (u : List ℕ). readQuestion u (c .xbits)) (sym (e ∙ ap writtenQuestion k)) ∙ f .1 in
+          let z : readQuestion (questionBytes q) (c .xbits) ≡ value (f .0) = ap (λ (u : List ℕ). readQuestion u (c .xbits)) (sym (e ∙ ap writtenQuestion k)) ∙ f .1 in
           let d : f .0 ≡ q = cc in
           (q, k, f .2 ∙ ap (λ (u : Question). answerBytes (told S X u)) d)
 
@@ -327,9 +326,11 @@ module _ (c : Lent) (r₀ : Rebuilder) (q₀ : List ℕ) (bs₀ : List ℕ) (sh�
       → Known (afterTaken (world H r bs sh w hs ts) m (rebuilderCall r (c .y) (c .ybits) m (roomsOf c bs sh)))
   rebuilder-known H r bs sh w hs ts m k f = go (rebuilderCall r (c .y) (c .ybits) m (roomsOf c bs sh)) refl
     where
-      go : (o : Taken) → rebuilderCall r (c .y) (c .ybits) m (roomsOf c bs sh) ≡ o → Known (afterTaken (world H r bs sh w hs ts) m o)
-      go (refuses e) i = k
-      go (takes s q′) i =
+      go : (o : Result Taken) → rebuilderCall r (c .y) (c .ybits) m (roomsOf c bs sh) ≡ o → Known (afterTaken (world H r bs sh w hs ts) m o)
+      go (refusal number) i = k
+      go (value tk) i =
+          let s = tk .step in
+          let q′ = tk .question in
           let l = k .0 in
           let rep = k .1 in
           let fa = fair-is w m (k .0) (rep .honest) (rep .asks) (f s q′ i) in
@@ -337,17 +338,17 @@ module _ (c : Lent) (r₀ : Rebuilder) (q₀ : List ℕ) (bs₀ : List ℕ) (sh�
           let ti = takes-it r bs sh w (k .0) rep (fa .0) (fa .1) in
           let rn = rep-next r bs sh w (k .0) rep (fa .0) (fa .1) in
           let st = stepOf r (c .y) (length (answerBytes (told S X (fa .0)))) (told S X (fa .0)) in
-          let e : takes s q′ ≡ takes st (writtenQuestion (planned (st .state))) = sym i ∙ ap (λ (z : List ℕ). rebuilderCall r (c .y) (c .ybits) z (roomsOf c bs sh)) (fa .2) ∙ ti in
-          subst (λ (o : Taken). Known (afterTaken (world H r bs sh w hs ts) m o)) (sym e)
+          let e : value tk ≡ takes st (writtenQuestion (planned (st .state))) = sym i ∙ ap (λ (z : List ℕ). rebuilderCall r (c .y) (c .ybits) z (roomsOf c bs sh)) (fa .2) ∙ ti in
+          subst (λ (o : Result Taken). Known (afterTaken (world H r bs sh w hs ts) m o)) (sym e)
           (told S X (fa .0) ∷ k .0, rn, ap₂ (λ (u : List ℕ) (v : List (List ℕ)). u ∷ v) (fa .2) (k .2), k .3)
 
   holder-known : (H : Holder) (r : Rebuilder) (bs : List ℕ) (sh : List Row) (w : List ℕ) (hs ts : List (List ℕ)) (m : List ℕ) → Known (world H r bs sh w hs ts)
       → Known (afterHeard (world H r bs sh w hs ts) m (holderCall H (c .x) (c .xbits) m (c .replyRoom)))
   holder-known H r bs sh w hs ts m k = go (holderCall H (c .x) (c .xbits) m (c .replyRoom)) refl
     where
-      go : (o : Heard) → holderCall H (c .x) (c .xbits) m (c .replyRoom) ≡ o → Known (afterHeard (world H r bs sh w hs ts) m o)
-      go (declines e) i = k
-      go (replies H′ b) i = (k .0, k .1, k .2, holder-step H H′ hs m b (k .3) i)
+      go : (o : Result Reply) → holderCall H (c .x) (c .xbits) m (c .replyRoom) ≡ o → Known (afterHeard (world H r bs sh w hs ts) m o)
+      go (refusal number) i = k
+      go (value a) i = (k .0, k .1, k .2, holder-step H (a .state) hs m (a .message) (k .3) i)
 
   step-known : (w : World) (k : Call) → Known w → FairCall c w k → Known (stepWorld c w k)
   step-known (world H r bs sh w hs ts) (toHolder m) i f = holder-known H r bs sh w hs ts m i

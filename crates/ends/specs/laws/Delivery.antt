@@ -1,6 +1,6 @@
 -- 01, demand 3: the proof.
-use mathlib.Core.Path.{_≡_, refl, ap}
-use mathlib.Core.Bool.{Bool, true, false, _&&_}
+use mathlib.Core.Path.{_≡_, refl, ap, sym}
+use mathlib.Core.Bool.{Bool, true, _&&_}
 use mathlib.Core.List.{List, [], _∷_, _++_}
 use mathlib.Core.Option.{some}
 use Prim.Native.Nat.{ℕ, _+_, _-_, _≤_}
@@ -9,6 +9,7 @@ use lib.ListN.{replicate, length}
 use lib.Seq.{length-sets}
 use lib.Dec.{leb, ltb}
 use borrow.Author.Tests.{leb-true}
+use Rattle.strings.specs.laws.ResultLaws.{unless-passed, value-is}
 use Rattle.messages.specs.Answers.{Answer}
 use Rattle.messages.specs.laws.QuestionLaws.{InRange}
 use Rattle.messages.specs.Questions.{questionBytes}
@@ -16,7 +17,7 @@ use Rattle.messages.specs.declared.Question.{Question}
 use Rattle.messages.specs.declared.Question.the-variants.{AskBits, AskHash, AskOpen, AskSyndrome}
 use Rattle.strings.specs.SettingLimits.{Limits, withinLimits}
 use Rattle.ends.specs.laws.Moves.{effectState, moved-effect, moved-opening}
-use Rattle.ends.specs.RebuilderCall.{Started, StringChange, clears, effectStep, freshRebuilder, keeps, noRow, openingStep, questionLength, rebuilderStart, sheetAfter, starts, stepOf, stringAfter, tallied, unlessStarted, wholeStep, writes}
+use Rattle.ends.specs.RebuilderCall.{StringChange, clears, effectStep, freshRebuilder, keeps, noRow, openingStep, questionLength, rebuilderStart, sheetAfter, starts, stepOf, stringAfter, tallied, wholeStep, writes, Started}
 use Rattle.ends.specs.Runs.{Run, advance, judge, opening, question, sizeOf, string, whole, working}
 use Rattle.ends.specs.Segments.{Effect, Segment, ask, asks, dropped, effect, newRows, settled, settles, splits, stays, step, theBits, theSize, waiting, waits}
 use Rattle.ends.specs.laws.Shape.{Inside}
@@ -35,7 +36,6 @@ use Rattle.strings.specs.laws.PackLaws.{length-cleared}
 use Rattle.strings.specs.StringRule.{stringRule}
 use Rattle.strings.specs.laws.Tests.{by-test}
 use Rattle.strings.specs.laws.WriteLaws.{length-writeBits}
-use Rattle.strings.specs.declared.Refusal.{Refusal}
 use Rattle.strings.specs.declared.Refusal.the-variants.{BadSetting, BadString, BufferTooShort}
 use Rattle.ends.specs.declared.Stage.the-variants.{Hashing, PuttingIn, TakingOut, Anchor, AllBits}
 use Rattle.ends.specs.declared.Stage.{Stage}
@@ -137,15 +137,11 @@ pub record StartedIs (S : Settings) (y : List ℕ) (bits room : ℕ) (r : Rebuil
   pub state : r ≡ freshRebuilder S bits
   pub question : q ≡ questionBytes (AskOpen (S .h) (S .key))
 
-pub unless-started : (t : Bool) (e : Refusal) (k : Started) (r : Rebuilder) (q : List ℕ) → unlessStarted t e k ≡ starts r q → (t ≡ true) × (k ≡ starts r q)
-unless-started true e k r q h = (refl, h)
-unless-started false e k r q h = let z : _≡_ {A = ℕ} 0 1 = cc in absurd (omega arith)
-
 pub started-is : (S : Settings) (y : List ℕ) (bits qr : ℕ) (r : Rebuilder) (q : List ℕ) → rebuilderStart S y bits qr ≡ starts r q → StartedIs S y bits qr r q
 unfolding rebuilderStart
 started-is S y bits qr r q e =
-    let u = unless-started (withinLimits S) BadSetting _ r q e in
-    let v = unless-started (stringRule y bits) BadString _ r q (u .1) in
-    let w = unless-started (leb 8 qr) BufferTooShort _ r q (v .1) in
-    let d = w .1 in
-    record { limits = limits-is S (u .0); string = v .0; enough = leb-true 8 qr (w .0); state = (cc); question = (cc) }
+    let u = unless-passed (withinLimits S) BadSetting _ _ e in
+    let v = unless-passed (stringRule y bits) BadString _ _ (u .1) in
+    let w = unless-passed (leb 8 qr) BufferTooShort _ _ (v .1) in
+    let d = value-is (w .1) in
+    record { limits = limits-is S (u .0); string = v .0; enough = leb-true 8 qr (w .0); state = sym (ap (λ (z : Started). z .state) d); question = sym (ap (λ (z : Started). z .question) d) }

@@ -1,5 +1,5 @@
 -- What an answered call of the holder shows, and that every state from it is sound.
-use mathlib.Core.Path.{_≡_, refl, sym, _∙_}
+use mathlib.Core.Path.{_≡_, refl, sym, _∙_, ap}
 use mathlib.Core.Bool.{Bool, true, false, not, _&&_, _||_}
 use mathlib.Core.Logic.{_⊎_, inl, inr}
 use mathlib.Core.List.{List}
@@ -8,19 +8,17 @@ use native.Mathlib.Omega.{arith}
 use lib.ListN.{length}
 use lib.Dec.{leb, ltb, eqb}
 use borrow.Author.Tests.{ltb-true, leb-true, le-leb, not-true, eq-eqb}
+use Rattle.strings.specs.laws.ResultLaws.{unless-passed, then-passed, value-is}
+use Rattle.strings.specs.Results.{value}
 use Rattle.messages.specs.laws.QuestionLaws.{Within, OpeningWithin, fields-within}
 use Rattle.messages.specs.Answers.{answerBytes}
 use Rattle.messages.specs.Kinds.{kindAt}
 use Rattle.messages.specs.Questions.{fieldsAt, questionKind}
 use Rattle.messages.specs.declared.Kind.{Kind}
 use Rattle.messages.specs.declared.Kind.the-variants.{Bits, Hash, Open, Syndrome}
-use Rattle.messages.specs.declared.KindRead.{KindRead}
-use Rattle.messages.specs.declared.KindRead.the-variants.{Known, NoKind}
 use Rattle.messages.specs.declared.Question.{Question}
 use Rattle.messages.specs.declared.Question.the-variants.{AskBits, AskHash, AskOpen, AskSyndrome}
-use Rattle.messages.specs.declared.QuestionRead.{QuestionRead}
-use Rattle.messages.specs.declared.QuestionRead.the-variants.{Asked, NoQuestion}
-use Rattle.ends.specs.HolderCall.{Heard, afterAnswer, answersTo, freshHolder, holderCall, inTurn, ofKind, replies, sameBitCount, sends, unlessHeard}
+use Rattle.ends.specs.HolderCall.{afterAnswer, answersTo, freshHolder, holderCall, inTurn, ofKind, replies, sameBitCount, sends, Reply}
 use Rattle.strings.specs.SettingLimits.{between}
 use Rattle.ends.specs.Runs.{answer}
 use Rattle.ends.specs.Soundness.{holderSound, mostAnswers}
@@ -28,8 +26,7 @@ use Rattle.ends.specs.declared.Holder.{Holder}
 use Rattle.strings.specs.Bits.{range, maxBits}
 use Rattle.strings.specs.laws.RuleLaws.{rule-is}
 use Rattle.strings.specs.StringRule.{stringRule}
-use Rattle.strings.specs.laws.Tests.{and-left, both}
-use Rattle.strings.specs.declared.Refusal.{Refusal}
+use Rattle.strings.specs.laws.Tests.{and-left, both, and-right}
 use Rattle.strings.specs.declared.Refusal.the-variants.{BadString, BufferTooShort, OutOfTurn}
 
 -- ---- a call of the holder that was answered
@@ -39,40 +36,38 @@ pub record HeardCall (st : Holder) (x : List ℕ) (bits : ℕ) (msg : List ℕ) 
   pub left : st .answers < mostAnswers
   pub kind : Kind
   pub at : ℕ
-  pub known : kindAt msg ≡ Known kind at
+  pub known : kindAt msg ≡ value (kind, at)
   pub turn : inTurn (st .opened) kind ≡ true
   pub q : Question
-  pub fields : fieldsAt kind msg at bits ≡ Asked q
+  pub fields : fieldsAt kind msg at bits ≡ value q
   pub after : next ≡ afterAnswer st bits q
   pub sends : reply ≡ answerBytes (answer (st .h) (st .key) (range x 0 bits) q)
-
-pub unless-heard : (t : Bool) (e : Refusal) (k : Heard) (s : Holder) (m : List ℕ) → unlessHeard t e k ≡ replies s m → (t ≡ true) × (k ≡ replies s m)
-unless-heard true e k s m h = (refl, h)
-unless-heard false e k s m h = let z : _≡_ {A = ℕ} 0 1 = cc in absurd (omega arith)
 
 module _ (st : Holder) (x : List ℕ) (bits : ℕ) (msg : List ℕ) (room : ℕ) (next : Holder) (reply : List ℕ) where
   pub heard-call : holderCall st x bits msg room ≡ replies next reply → HeardCall st x bits msg room next reply
   unfolding holderCall sends
   heard-call e =
-      let u = unless-heard (stringRule x bits && sameBitCount st bits) BadString _ next reply e in
-      let v = unless-heard (holderSound st && ltb (st .answers) mostAnswers) OutOfTurn _ next reply (u .1) in
-      let r = rule-is x bits (and-left (stringRule x bits) (sameBitCount st bits) (u .0)) in
-      let w = both (holderSound st) (ltb (st .answers) mostAnswers) (v .0) in
-      go (r .few) (w .0) (ltb-true (st .answers) mostAnswers (w .1)) (kindAt msg) refl (v .1)
-    where
-      go : bits ≤ maxBits → holderSound st ≡ true → st .answers < mostAnswers → (k : KindRead) → kindAt msg ≡ k → ofKind st x bits msg room k ≡ replies next reply → HeardCall st x bits msg room next reply
-      go f s l (NoKind d) k e = let z : _≡_ {A = ℕ} 0 1 = cc in absurd (omega arith)
-      go f s l (Known kd at) k e =
-          let u = unless-heard (inTurn (st .opened) kd) OutOfTurn _ next reply e in
-          asked (u .0) (fieldsAt kd msg at bits) refl (u .1)
-        where
-          asked : inTurn (st .opened) kd ≡ true → (q : QuestionRead) → fieldsAt kd msg at bits ≡ q → answersTo st x bits room q ≡ replies next reply → HeardCall st x bits msg room next reply
-          asked t (NoQuestion d) g e = let z : _≡_ {A = ℕ} 0 1 = cc in absurd (omega arith)
-          asked t (Asked q) g e =
-              let m = answerBytes (answer (st .h) (st .key) (range x 0 bits) q) in
-              let u = unless-heard (leb (length m) room) BufferTooShort (replies (afterAnswer st bits q) m) next reply e in
-              let d = u .1 in
-              record { few = f; sound-before = s; left = l; kind = kd; at = at; known = k; turn = t; q = q; fields = g; after = (cc); sends = (cc) }
+      let u = unless-passed (stringRule x bits && sameBitCount st bits) BadString _ _ e in
+      let v = unless-passed (holderSound st && ltb (st .answers) mostAnswers) OutOfTurn _ _ (u .1) in
+      let w = then-passed (kindAt msg) (λ (k, at). ofKind st x bits msg room k at) _ (v .1) in
+      let f = unless-passed (inTurn (st .opened) (w .0 .0)) OutOfTurn _ _ (w .2) in
+      let g = then-passed (fieldsAt (w .0 .0) msg (w .0 .1) bits) (answersTo st x bits room) _ (f .1) in
+      let m = answerBytes (answer (st .h) (st .key) (range x 0 bits) (g .0)) in
+      let h = unless-passed (leb (length m) room) BufferTooShort _ _ (g .2) in
+      let d = value-is (h .1) in
+      record {
+        few = rule-is x bits (and-left (stringRule x bits) (sameBitCount st bits) (u .0)) .few;
+        sound-before = and-left (holderSound st) (ltb (st .answers) mostAnswers) (v .0);
+        left = ltb-true (st .answers) mostAnswers (and-right (holderSound st) (ltb (st .answers) mostAnswers) (v .0));
+        kind = w .0 .0;
+        at = w .0 .1;
+        known = w .1;
+        turn = f .0;
+        q = g .0;
+        fields = g .1;
+        after = sym (ap (λ (z : Reply). z .state) d);
+        sends = sym (ap (λ (z : Reply). z .message) d);
+      }
 
 -- ---- soundness
 pub record OpenedIs (st : Holder) : Type 0 where

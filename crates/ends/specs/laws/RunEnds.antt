@@ -9,7 +9,7 @@ use Rattle.messages.specs.Answers.{answerBytes}
 use Rattle.messages.specs.laws.QuestionLaws.{question-reads}
 use Rattle.messages.specs.Questions.{readQuestion}
 use Rattle.messages.specs.declared.Question.{Question}
-use Rattle.messages.specs.declared.QuestionRead.the-variants.{Asked}
+use Rattle.strings.specs.Results.{Result, value}
 use Rattle.ends.specs.laws.CallLists.{Known, claimed, in-range, known, takes-it, x-few}
 use Rattle.ends.specs.RebuilderCall.{Taken, writtenQuestion}
 use Rattle.ends.specs.Runs.{question, run, told}
@@ -35,11 +35,11 @@ module _ (c : Lent) (r₀ : Rebuilder) (q₀ : List ℕ) (bs₀ : List ℕ) (sh�
       go : (o : Option Question) → question (c .settings) (run (c .settings) (bitsOfY c) (k .0)) ≡ o → Next (world H r bs sh w hs ts)
       go none e = ends (k .1 .asks ∙ ap writtenQuestion e)
       go (some q) e =
-          let rd : readQuestion w (c .xbits) ≡ Asked q =
+          let rd : readQuestion w (c .xbits) ≡ value q =
           ap (λ (u : List ℕ). readQuestion u (c .xbits)) (k .1 .asks ∙ ap writtenQuestion e)
           ∙ question-reads q (c .xbits) (x-few c r₀ q₀ bs₀ sh₀ sup) (in-range c r₀ q₀ bs₀ sh₀ sup (k .0) (k .1 .honest) q e) in
           goes (answerBytes (told (c .settings) (bitsOfX c) q)) (λ s q′ i. (q, rd, refl))
-          (ap (λ (t : Taken). takenIn (afterTaken (world H r bs sh w hs ts) (answerBytes (told (c .settings) (bitsOfX c) q)) t)) (takes-it c r₀ q₀ bs₀ sh₀ sup r bs sh w (k .0) (k .1) q e))
+          (ap (λ (t : Result Taken). takenIn (afterTaken (world H r bs sh w hs ts) (answerBytes (told (c .settings) (bitsOfX c) q)) t)) (takes-it c r₀ q₀ bs₀ sh₀ sup r bs sh w (k .0) (k .1) q e))
 
   few-taken : (w : World) → Known c r₀ q₀ bs₀ sh₀ sup w → takenIn w ≤ most
   few-taken (world H r bs sh w hs ts) k = claimed c r₀ q₀ bs₀ sh₀ sup (world H r bs sh w hs ts) k .1 .questions

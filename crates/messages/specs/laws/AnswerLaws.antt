@@ -9,6 +9,7 @@ use lib.Seq.{drop-at, getD-drop, take-all, length-take-le}
 use lib.Dec.{ltb, leb, eqb}
 use lib.Pow.{pow-mono}
 use borrow.Author.Tests.{lt-ltb, le-leb, lt-leb, eq-eqb, ne-eqb, ltb-true, leb-true, eqb-true}
+use Rattle.strings.specs.laws.ResultLaws.{value-is}
 use Rattle.strings.specs.Bits.{maxBits, range, bytesFor, pack}
 use Rattle.strings.specs.StringRule.{stringRule, IsString}
 use Rattle.strings.specs.Refusals.{refusalNumber}
@@ -22,8 +23,8 @@ use Rattle.messages.specs.declared.Kind.{Kind}
 use Rattle.messages.specs.declared.Kind.the-variants.{Open, Hash, Syndrome, Bits}
 use Rattle.messages.specs.declared.AnswerRead.{AnswerRead}
 use Rattle.messages.specs.declared.AnswerRead.the-variants.{IsSize, IsHash, IsSyndrome, IsBits, NoAnswer}
-use Rattle.messages.specs.Numbers.{number, numberAt}
-use Rattle.messages.specs.laws.NumberLaws.{number-reads, number-reads-last, number-form, number-form-last, drop-past, ends-there, size-some, size-most, size-short, value-is}
+use Rattle.messages.specs.Numbers.{number, numberAt, twoAt}
+use Rattle.messages.specs.laws.NumberLaws.{number-reads, number-reads-last, number-form, number-form-last, two-reads-last, two-form-last, ends-there, size-some, size-most, size-short}
 use Rattle.messages.specs.Kinds.{kindNumber}
 use Rattle.messages.specs.laws.KindLaws.{kind-most, kind-size}
 use Rattle.messages.specs.Answers.{Answer, sizeAnswer, hashAnswer, syndromeAnswer, bitsAnswer, answerBytes, sizeAt, hashAt, syndromeAt, bitsAt, answerFields, readAnswer, saidAnswer, BitsAt, BitsThere}
@@ -92,14 +93,6 @@ answer-most len h (syndromeAnswer a x) m v = let b = v .0 in let e = syndrome-an
 answer-most len h (bitsAnswer l) m v = let b = v .0 in let e = bits-answer-size l in omega arith
 
 -- ---- as the code meets them
--- the tests of a syndrome and a hash that end at position end of size bytes
-abbrev pub syndromeIn : (len h size a v end : ℕ) → Result Answer
-syndromeIn len h size a v end =
-    unless (leb size end) TrailingBytes (
-    unless (leb a len) OutOfRange (
-    unless (ltb v (2 ^ h)) OutOfRange (
-    value (syndromeAnswer a v))))
-
 -- the bits, where the rest of the message is looked at
 module _ (len : ℕ) (s : List ℕ) (at : ℕ) (h : at ≤ length s) where
   pub bits-cut : length s - at < bytesFor len → refusal (refusalNumber Truncated) ≡ bitsAt len s at
@@ -169,17 +162,8 @@ module _ (len h : ℕ) (few : len ≤ maxBits) (narrow : h ≤ 32) where
       let l = ends-there s (number v) 1 d (omega arith) in
       rw (number-reads-last s 1 v (hash-fits v m) d, le-leb (length s) (1 + length (number v)) (omega arith), lt-ltb v (2 ^ h) m) refl
   values-read (syndromeAnswer a v) s m d k =
-      let z = size-some a in
       let x = m .0 in
-      let e = length-append (number a) (number v) in
-      let l = ends-there s (number a ++ number v) 1 d (omega arith) in
-      rw (
-        number-reads s (number v) 1 a (omega arith) d,
-        number-reads-last s (1 + length (number a)) v (hash-fits v (m .1)) (drop-past s (number a) (number v) 1 d),
-        le-leb (length s) (1 + length (number a) + length (number v)) (omega arith),
-        le-leb a len (m .0),
-        lt-ltb v (2 ^ h) (m .1),
-      ) refl
+      rw (two-reads-last s 1 a v (omega arith) (hash-fits v (m .1)) d, le-leb (length s) (length s) (omega arith), le-leb a len x, lt-ltb v (2 ^ h) (m .1)) refl
   values-read (bitsAnswer l) s m d k =
       let e = length-drop 1 s in
       let f = ap length d ∙ length-pack l in
@@ -237,15 +221,14 @@ hash-of len h s at a is =
 syndrome-of : (len h : ℕ) (s : List ℕ) (at : ℕ) (a : Answer) → syndromeAt len h s at ≡ value a → FieldsOf Syndrome len h s at a
 unfolding syndromeAt
 syndrome-of len h s at a is =
-    let (x, e₁, is₁) = then-passed (numberAt s at) _ a is in
-    let (v, e₂, is₂) = then-passed (numberAt s (x .1)) _ a is₁ in
-    let (t₁, is₃) = unless-passed (leb (length s) (v .1)) TrailingBytes _ a is₂ in
-    let (t₂, is₄) = unless-passed (leb (x .0) len) OutOfRange _ a is₃ in
-    let (t₃, is₅) = unless-passed (ltb (v .0) (2 ^ h)) OutOfRange _ a is₄ in
-    rw (← value-is is₅) (record {
+    let (p, e, is₁) = then-passed (twoAt s at) _ a is in
+    let (t₁, is₂) = unless-passed (leb (length s) (p .2)) TrailingBytes _ a is₁ in
+    let (t₂, is₃) = unless-passed (leb (p .0) len) OutOfRange _ a is₂ in
+    let (t₃, is₄) = unless-passed (ltb (p .1) (2 ^ h)) OutOfRange _ a is₃ in
+    rw (← value-is is₄) (record {
       of-kind = refl;
-      values = (leb-true (x .0) len t₂, ltb-true (v .0) (2 ^ h) t₃);
-      bytes = λ k. number-form s at (x .0) (x .1) k e₁ .stands ∙ ap (λ (l : List ℕ). number (x .0) ++ l) (number-form-last s (x .1) (v .0) (v .1) k e₂ (leb-true (length s) (v .1) t₁));
+      values = (leb-true (p .0) len t₂, ltb-true (p .1) (2 ^ h) t₃);
+      bytes = λ k. two-form-last s k at p e (leb-true (length s) (p .2) t₁);
     })
 
 drop-bytes : (s : List ℕ) (at : ℕ) → Bytes s → Bytes (drop at s)

@@ -4,6 +4,7 @@ use mathlib.Core.List.{List, _++_}
 use Prim.Native.Nat.{ℕ, zero, suc, _+_, _≤_}
 use native.Mathlib.Omega.{arith}
 use lib.ListN.{length, drop}
+use Rattle.strings.specs.laws.ResultLaws.{value-is}
 use Rattle.strings.specs.Refusals.{refusalNumber}
 use Rattle.strings.specs.Results.{Result, refusal, value, mapped}
 use Rattle.strings.specs.laws.PackLaws.{Bytes}
@@ -12,7 +13,7 @@ use Rattle.strings.specs.declared.Refusal.the-variants.{BadKind}
 use Rattle.messages.specs.declared.Kind.{Kind}
 use Rattle.messages.specs.declared.Kind.the-variants.{Open, Hash, Syndrome, Bits}
 use Rattle.messages.specs.Numbers.{number, numberAt}
-use Rattle.messages.specs.laws.NumberLaws.{number-reads, number-form, size-last, value-is}
+use Rattle.messages.specs.laws.NumberLaws.{number-reads, number-form, size-last}
 use Rattle.messages.specs.Kinds.{kindNumber, kindOf, kindAt}
 
 pub kind-most : (k : Kind) → kindNumber k ≤ 3

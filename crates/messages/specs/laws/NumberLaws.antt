@@ -7,21 +7,19 @@ use native.Mathlib.Nat.{mul-add, mul-assoc}
 use native.Mathlib.Numerals.{add-one}
 use native.Mathlib.Decide.{decLt}
 use native.Mathlib.Omega.{arith}
-use lib.ListN.{length, getD, set, take, drop, length-drop, drop-of-length-le}
+use lib.ListN.{length, getD, set, take, drop, length-append, length-drop, drop-of-length-le}
 use lib.Seq.{sets, drop-drop, drop-append-seam, drop-append-le, drop-cons, drop-at, take-at, take-add, length-take-le}
 use lib.Dec.{ltb, leb}
 use borrow.Author.Tests.{lt-ltb, le-ltb, le-leb, lt-leb, ltb-true, ltb-false, leb-true}
+use Rattle.strings.specs.laws.ResultLaws.{value-is}
 use Rattle.strings.specs.Bits.{maxBits}
 use Rattle.strings.specs.Refusals.{refusalNumber}
 use Rattle.strings.specs.Results.{Result, refusal, value, andThen}
 use Rattle.strings.specs.laws.PackLaws.{Bytes}
 use Rattle.strings.specs.laws.Tests.{by-test}
-use Rattle.strings.specs.laws.ResultLaws.{unless-passed}
-use Rattle.strings.specs.declared.Refusal.{Refusal}
+use Rattle.strings.specs.laws.ResultLaws.{unless-passed, then-passed}
 use Rattle.strings.specs.declared.Refusal.the-variants.{Truncated, BadNumber}
-use Rattle.messages.specs.declared.numbers.NumberRead.{NumberRead}
-use Rattle.messages.specs.declared.numbers.NumberRead.the-variants.{Value, NoNumber}
-use Rattle.messages.specs.Numbers.{groups, number, nextByte, numberAt, saidNumber}
+use Rattle.messages.specs.Numbers.{groups, number, nextByte, numberAt, twoAt, threeAt}
 
 -- ---- a number's bytes, from the first on
 abbrev lim : ℕ → ℕ
@@ -183,17 +181,9 @@ pub read-none : (s : List ℕ) (at : ℕ) → length s ≤ at → numberAt s at 
 unfolding numberAt
 read-none s at h = rw (le-ltb at (length s) h) refl
 
--- ---- as the code meets them: r is what a number reader gave, and the number n decides what o is
-module _ {A : Type 0} {o : Result A} {n : Result (ℕ × ℕ)} {r : NumberRead} (p : saidNumber r ≡ n) (f : ℕ × ℕ → Result A) (so : o ≡ andThen n f) where
-  pub no-number : {e : Refusal} → r ≡ NoNumber e → refusal (refusalNumber e) ≡ o
-  no-number q = sym (so ∙ rw (← p, q) refl)
-
-  pub the-number : {v b : ℕ} → r ≡ Value v b → o ≡ f (v, b)
-  the-number q = so ∙ rw (← p, q) refl
-
--- a number that was read stands in the message
-pub read-there : {n : Result (ℕ × ℕ)} {r : NumberRead} {v b : ℕ} → saidNumber r ≡ n → r ≡ Value v b → n ≡ value (v, b)
-read-there p q = sym p ∙ ap saidNumber q
+-- ---- as the code meets them: the answer r, which says n, is known to be x, and n decides what o is
+pub read-decides : {A B R : Type 0} (said : R → Result A) {n : Result A} {o : Result B} {r x : R} → said r ≡ n → (f : A → Result B) → o ≡ andThen n f → r ≡ x → o ≡ andThen (said x) f
+read-decides said p f so q = so ∙ rw (← p, q) refl
 
 -- ---- what was written is read
 head-is : (s : List ℕ) (i x : ℕ) (r : List ℕ) → drop i s ≡ x ∷ r → (i < length s) × (getD s i 0 ≡ x) × (drop (i + 1) s ≡ r)
@@ -280,10 +270,35 @@ number-reads s rest at v m e = go (decLt v 128)
 pub number-reads-last : (s : List ℕ) (at v : ℕ) → v < 4294967296 → drop at s ≡ number v → numberAt s at ≡ value (v, at + length (number v))
 number-reads-last s at v m e = number-reads s [] at v m (e ∙ sym (append-nil (number v)))
 
--- ---- nothing else is read to the same number
-pub value-is : {A : Type 0} {a b : A} → value a ≡ value b → a ≡ b
-value-is {A} {a} {b} e = cc
+-- two numbers that are the last of a message, and three
+module _ (s : List ℕ) (at a b : ℕ) (small₁ : a < 4294967296) (small₂ : b < 4294967296) where
+  two-reads : (rest : List ℕ) → drop at s ≡ number a ++ (number b ++ rest) → twoAt s at ≡ value (a, b, at + length (number a) + length (number b))
+  unfolding twoAt
+  two-reads rest d = rw (number-reads s (number b ++ rest) at a small₁ d, number-reads s rest (at + length (number a)) b small₂ (drop-past s (number a) (number b ++ rest) at d)) refl
 
+  pub two-reads-last : drop at s ≡ number a ++ number b → twoAt s at ≡ value (a, b, length s)
+  two-reads-last d =
+      let e = length-append (number a) (number b) in
+      let z = size-some a in
+      let l = ends-there s (number a ++ number b) at d (omega arith) in
+      let f : at + length (number a) + length (number b) ≡ length s = omega arith in
+      two-reads [] (d ∙ ap (λ (l : List ℕ). number a ++ l) (sym (append-nil (number b)))) ∙ ap (λ (n : ℕ). value (a, b, n)) f
+
+  pub three-reads-last : (c : ℕ) → c < 4294967296 → drop at s ≡ number a ++ (number b ++ number c) → threeAt s at ≡ value (a, b, c, length s)
+  unfolding threeAt
+  three-reads-last c m d =
+      let e = length-append (number a) (number b ++ number c) in
+      let f = length-append (number b) (number c) in
+      let z = size-some a in
+      let l = ends-there s (number a ++ (number b ++ number c)) at d (omega arith) in
+      let g : at + length (number a) + length (number b) + length (number c) ≡ length s = omega arith in
+      rw (
+        two-reads (number c) d,
+        number-reads-last s (at + length (number a) + length (number b)) c m (drop-past s (number b) (number c) (at + length (number a)) (drop-past s (number a) (number b ++ number c) at d)),
+        g,
+      ) refl
+
+-- ---- nothing else is read to the same number
 number-is : {v b x c : ℕ} → _≡_ {A = Result (ℕ × ℕ)} (value (v, b)) (value (x, c)) → (v ≡ x) × (b ≡ c)
 number-is e = let f = value-is e in (ap (λ (p : ℕ × ℕ). p .0) f, ap (λ (p : ℕ × ℕ). p .1) f)
 
@@ -441,6 +456,40 @@ number-form s at v b bytes is =
 -- the last number of a message
 pub number-form-last : (s : List ℕ) (at v b : ℕ) → Bytes s → numberAt s at ≡ value (v, b) → length s ≤ b → drop at s ≡ number v
 number-form-last s at v b bytes e h = number-form s at v b bytes e .stands ∙ ap (λ (l : List ℕ). number v ++ l) (drop-of-length-le s h) ∙ append-nil (number v)
+
+-- what two numbers and three were read from
+two-parts : (s : List ℕ) (at : ℕ) (p : ℕ × ℕ × ℕ) → twoAt s at ≡ value p → (next : ℕ) × (numberAt s at ≡ value (p .0, next)) × (numberAt s next ≡ value (p .1, p .2))
+unfolding twoAt
+two-parts s at p is =
+    let (x, e, is₁) = then-passed (numberAt s at) _ p is in
+    let (y, f, is₂) = then-passed (numberAt s (x .1)) _ p is₁ in
+    let g = value-is is₂ in
+    (x .1, e ∙ ap (λ (z : ℕ × ℕ × ℕ). value (z .0, x .1)) g, f ∙ ap (λ (z : ℕ × ℕ × ℕ). value (z .1, z .2)) g)
+
+three-parts : (s : List ℕ) (at : ℕ) (p : ℕ × ℕ × ℕ × ℕ) → threeAt s at ≡ value p → (next : ℕ) × (twoAt s at ≡ value (p .0, p .1, next)) × (numberAt s next ≡ value (p .2, p .3))
+unfolding threeAt
+three-parts s at p is =
+    let (x, e, is₁) = then-passed (twoAt s at) _ p is in
+    let (y, f, is₂) = then-passed (numberAt s (x .2)) _ p is₁ in
+    let g = value-is is₂ in
+    (x .2, e ∙ ap (λ (z : ℕ × ℕ × ℕ × ℕ). value (z .0, z .1, x .2)) g, f ∙ ap (λ (z : ℕ × ℕ × ℕ × ℕ). value (z .2, z .3)) g)
+
+module _ (s : List ℕ) (bytes : Bytes s) (at : ℕ) where
+  two-form : (p : ℕ × ℕ × ℕ) → twoAt s at ≡ value p → drop at s ≡ number (p .0) ++ (number (p .1) ++ drop (p .2) s)
+  two-form p is =
+      let (next, e, f) = two-parts s at p is in
+      number-form s at (p .0) next bytes e .stands ∙ ap (λ (l : List ℕ). number (p .0) ++ l) (number-form s next (p .1) (p .2) bytes f .stands)
+
+  pub two-form-last : (p : ℕ × ℕ × ℕ) → twoAt s at ≡ value p → length s ≤ p .2 → drop at s ≡ number (p .0) ++ number (p .1)
+  two-form-last p is h = two-form p is ∙ ap (λ (l : List ℕ). number (p .0) ++ (number (p .1) ++ l)) (drop-of-length-le s h) ∙ ap (λ (l : List ℕ). number (p .0) ++ l) (append-nil (number (p .1)))
+
+  -- the third is below 2^32, as each is
+  pub three-form-last : (p : ℕ × ℕ × ℕ × ℕ) → threeAt s at ≡ value p → length s ≤ p .3 → (drop at s ≡ number (p .0) ++ (number (p .1) ++ number (p .2))) × (p .2 < 4294967296)
+  three-form-last p is h =
+      let (next, e, f) = three-parts s at p is in (
+        two-form (p .0, p .1, next) e ∙ ap (λ (l : List ℕ). number (p .0) ++ (number (p .1) ++ l)) (number-form-last s next (p .2) (p .3) bytes f h),
+        number-form s next (p .2) (p .3) bytes f .small,
+      )
 
 -- a number ends by the end of the message, whatever its elements
 next-inside : (k : ℕ) (s : List ℕ) (i w a x b : ℕ) → nextByte k s i w a ≡ value (x, b) → (i < b) × (b ≤ length s)

@@ -7,6 +7,7 @@ use lib.ListN.{length, drop, length-append}
 use lib.Seq.{drop-at}
 use lib.Dec.{leb, eqb}
 use borrow.Author.Tests.{le-leb, leb-true, eqb-true}
+use Rattle.strings.specs.laws.ResultLaws.{value-is}
 use Rattle.strings.specs.Bits.{maxBits}
 use Rattle.strings.specs.SettingLimits.{hashLimits, keyLimits}
 use Rattle.strings.specs.Results.{value}
@@ -18,8 +19,8 @@ use Rattle.messages.specs.declared.Kind.{Kind}
 use Rattle.messages.specs.declared.Kind.the-variants.{Open, Hash, Syndrome, Bits}
 use Rattle.messages.specs.declared.Question.{Question}
 use Rattle.messages.specs.declared.Question.the-variants.{AskOpen, AskHash, AskSyndrome, AskBits}
-use Rattle.messages.specs.Numbers.{number, numberAt}
-use Rattle.messages.specs.laws.NumberLaws.{number-reads, number-reads-last, number-form, number-form-last, drop-past, ends-there, size-last, size-some, size-most, size-short, value-is}
+use Rattle.messages.specs.Numbers.{number, twoAt, threeAt}
+use Rattle.messages.specs.laws.NumberLaws.{two-reads-last, three-reads-last, two-form-last, three-form-last, size-last, size-some, size-most, size-short}
 use Rattle.messages.specs.Kinds.{kindNumber, kindAt}
 use Rattle.messages.specs.laws.KindLaws.{kind-size, kind-reads, kind-form}
 use Rattle.messages.specs.Questions.{questionKind, questionBytes, openingAt, rangeAt, fieldsAt, readQuestion}
@@ -106,19 +107,9 @@ pub opening-reads : (s : List ℕ) (at h key : ℕ) → OpeningWithin h key → 
 unfolding openingAt
 opening-reads s at h key w m d =
     let x = w .h-most in
-    let b = at + length (number 1) in
-    let c = b + length (number h) in
-    let d₁ = drop-past s (number 1) (number h ++ number key) at d in
-    let d₂ = drop-past s (number h) (number key) b d₁ in
-    let e = length-append (number 1) (number h ++ number key) in
-    let f = length-append (number h) (number key) in
-    let z = size-some 1 in
-    let l = ends-there s (number 1 ++ (number h ++ number key)) at d (omega arith) in
     rw (
-      number-reads s (number h ++ number key) at 1 (omega arith) d,
-      number-reads s (number key) b h (omega arith) d₁,
-      number-reads-last s c key m d₂,
-      le-leb (length s) (c + length (number key)) (omega arith),
+      three-reads-last s at 1 h (omega arith) (omega arith) key m d,
+      le-leb (length s) (length s) (omega arith),
       le-leb 8 h (w .h-least),
       le-leb h 32 (w .h-most),
       le-leb 1 key (w .key-least),
@@ -129,15 +120,9 @@ pub range-reads : (ask : ℕ → ℕ → Question) (s : List ℕ) (at n start le
 unfolding rangeAt
 range-reads ask s at n start len m w d =
     let x = w .ends in
-    let b = at + length (number start) in
-    let d₁ = drop-past s (number start) (number len) at d in
-    let e = length-append (number start) (number len) in
-    let z = size-some start in
-    let l = ends-there s (number start ++ number len) at d (omega arith) in
     rw (
-      number-reads s (number len) at start (omega arith) d,
-      number-reads-last s b len (omega arith) d₁,
-      le-leb (length s) (b + length (number len)) (omega arith),
+      two-reads-last s at start len (omega arith) (omega arith) d,
+      le-leb (length s) (length s) (omega arith),
       le-leb 1 len (w .some),
       le-leb (start + len) n x,
     ) refl
@@ -170,12 +155,8 @@ question-reads q n m r = question-known (questionBytes q) n (question-kind-reads
 record OpeningRead (s : List ℕ) (at : ℕ) (q : Question) : Type 0 where
   h : ℕ
   key : ℕ
-  b : ℕ
-  c : ℕ
   end : ℕ
-  first : numberAt s at ≡ value (1, b)
-  second : numberAt s b ≡ value (h, c)
-  third : numberAt s c ≡ value (key, end)
+  read : threeAt s at ≡ value (1, h, key, end)
   nothing : length s ≤ end
   within : OpeningWithin h key
   is : AskOpen h key ≡ q
@@ -183,35 +164,29 @@ record OpeningRead (s : List ℕ) (at : ℕ) (q : Question) : Type 0 where
 opening-read : (s : List ℕ) (at : ℕ) (q : Question) → openingAt s at ≡ value q → OpeningRead s at q
 unfolding openingAt
 opening-read s at q is =
-    let (v, e₁, is₁) = then-passed (numberAt s at) _ q is in
-    let (h, e₂, is₂) = then-passed (numberAt s (v .1)) _ q is₁ in
-    let (key, e₃, is₃) = then-passed (numberAt s (h .1)) _ q is₂ in
-    let (t₁, is₄) = unless-passed (leb (length s) (key .1)) TrailingBytes _ q is₃ in
-    let (t₂, is₅) = unless-passed (eqb (v .0) 1) OutOfRange _ q is₄ in
-    let (t₃, is₆) = unless-passed (hashLimits (h .0)) OutOfRange _ q is₅ in
-    let (t₄, is₇) = unless-passed (keyLimits (key .0)) OutOfRange _ q is₆ in
+    let (p, e, is₁) = then-passed (threeAt s at) _ q is in
+    let h = p .1 in
+    let key = p .2 in
+    let (t₁, is₂) = unless-passed (leb (length s) (p .3)) TrailingBytes _ q is₁ in
+    let (t₂, is₃) = unless-passed (eqb (p .0) 1) OutOfRange _ q is₂ in
+    let (t₃, is₄) = unless-passed (hashLimits h) OutOfRange _ q is₃ in
+    let (t₄, is₅) = unless-passed (keyLimits key) OutOfRange _ q is₄ in
     record {
-      h = h .0;
-      key = key .0;
-      b = v .1;
-      c = h .1;
-      end = key .1;
-      first = e₁ ∙ ap (λ (n : ℕ). value (n, v .1)) (eqb-true (v .0) 1 t₂);
-      second = e₂;
-      third = e₃;
-      nothing = leb-true (length s) (key .1) t₁;
-      within = record { h-least = leb-true 8 (h .0) (and-left (leb 8 (h .0)) (leb (h .0) 32) t₃); h-most = leb-true (h .0) 32 (and-right (leb 8 (h .0)) (leb (h .0) 32) t₃); key-least = leb-true 1 (key .0) (and-left (leb 1 (key .0)) (leb (key .0) 4294967295) t₄) };
-      is = value-is is₇;
+      h = h;
+      key = key;
+      end = p .3;
+      read = e ∙ ap (λ (n : ℕ). value (n, h, key, p .3)) (eqb-true (p .0) 1 t₂);
+      nothing = leb-true (length s) (p .3) t₁;
+      within = record { h-least = leb-true 8 h (and-left (leb 8 h) (leb h 32) t₃); h-most = leb-true h 32 (and-right (leb 8 h) (leb h 32) t₃); key-least = leb-true 1 key (and-left (leb 1 key) (leb key 4294967295) t₄) };
+      is = value-is is₅;
     }
 
 -- the numbers that a range was read from
 record RangeRead (ask : ℕ → ℕ → Question) (s : List ℕ) (at n : ℕ) (q : Question) : Type 0 where
   start : ℕ
   len : ℕ
-  b : ℕ
   end : ℕ
-  first : numberAt s at ≡ value (start, b)
-  second : numberAt s b ≡ value (len, end)
+  read : twoAt s at ≡ value (start, len, end)
   nothing : length s ≤ end
   within : RangeWithin n start len
   is : ask start len ≡ q
@@ -219,21 +194,18 @@ record RangeRead (ask : ℕ → ℕ → Question) (s : List ℕ) (at n : ℕ) (q
 range-read : (ask : ℕ → ℕ → Question) (s : List ℕ) (at n : ℕ) (q : Question) → rangeAt ask s at n ≡ value q → RangeRead ask s at n q
 unfolding rangeAt
 range-read ask s at n q is =
-    let (start, e₁, is₁) = then-passed (numberAt s at) _ q is in
-    let (len, e₂, is₂) = then-passed (numberAt s (start .1)) _ q is₁ in
-    let (t₁, is₃) = unless-passed (leb (length s) (len .1)) TrailingBytes _ q is₂ in
-    let (t₂, is₄) = unless-passed (leb 1 (len .0)) OutOfRange _ q is₃ in
-    let (t₃, is₅) = unless-passed (leb (start .0 + len .0) n) OutOfRange _ q is₄ in
+    let (p, e, is₁) = then-passed (twoAt s at) _ q is in
+    let (t₁, is₂) = unless-passed (leb (length s) (p .2)) TrailingBytes _ q is₁ in
+    let (t₂, is₃) = unless-passed (leb 1 (p .1)) OutOfRange _ q is₂ in
+    let (t₃, is₄) = unless-passed (leb (p .0 + p .1) n) OutOfRange _ q is₃ in
     record {
-      start = start .0;
-      len = len .0;
-      b = start .1;
-      end = len .1;
-      first = e₁;
-      second = e₂;
-      nothing = leb-true (length s) (len .1) t₁;
-      within = record { some = leb-true 1 (len .0) t₂; ends = leb-true (start .0 + len .0) n t₃ };
-      is = value-is is₅;
+      start = p .0;
+      len = p .1;
+      end = p .2;
+      read = e;
+      nothing = leb-true (length s) (p .2) t₁;
+      within = record { some = leb-true 1 (p .1) t₂; ends = leb-true (p .0 + p .1) n t₃ };
+      is = value-is is₄;
     }
 
 -- the question has the kind that was read, within 01's limits
@@ -252,19 +224,14 @@ pub record FieldsOf (k : Kind) (s : List ℕ) (at n : ℕ) (q : Question) : Type
 
 module _ (s : List ℕ) (bytes : Bytes s) where
   range-form : (ask : ℕ → ℕ → Question) (at n : ℕ) (q : Question) (r : RangeRead ask s at n q) → drop at s ≡ number (r .start) ++ number (r .len)
-  range-form ask at n q r =
-      number-form s at (r .start) (r .b) bytes (r .first) .stands ∙ ap (λ (l : List ℕ). number (r .start) ++ l) (number-form-last s (r .b) (r .len) (r .end) bytes (r .second) (r .nothing))
+  range-form ask at n q r = two-form-last s bytes at (r .start, r .len, r .end) (r .read) (r .nothing)
 
   pub fields-form : (k : Kind) (at n : ℕ) (q : Question) → fieldsAt k s at n ≡ value q → FieldsOf k s at n q
   unfolding fieldsAt
   fields-form Open at n q e =
       let r = opening-read s at q e in
-      rw (← r .is) (record {
-        kind = refl;
-        range = record { within = r .within; key-most = number-form s (r .c) (r .key) (r .end) bytes (r .third) .small };
-        bytes = number-form s at 1 (r .b) bytes (r .first) .stands
-            ∙ ap (λ (l : List ℕ). number 1 ++ l) (number-form s (r .b) (r .h) (r .c) bytes (r .second) .stands ∙ ap (λ (l : List ℕ). number (r .h) ++ l) (number-form-last s (r .c) (r .key) (r .end) bytes (r .third) (r .nothing)));
-      })
+      let f = three-form-last s bytes at (1, r .h, r .key, r .end) (r .read) (r .nothing) in
+      rw (← r .is) (record { kind = refl; range = record { within = r .within; key-most = f .1 }; bytes = f .0 })
   fields-form Hash at n q e =
       let r = range-read AskHash s at n q e in
       rw (← r .is) (record { kind = refl; range = record { within = r .within; key-most = omega arith }; bytes = range-form AskHash at n q r })

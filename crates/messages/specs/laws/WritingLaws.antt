@@ -11,8 +11,12 @@ use Rattle.strings.specs.Bits.{range, bytesFor, pack, cleared, writeBits, atFro
 use Rattle.strings.specs.laws.RangeLaws.{range-length}
 use Rattle.strings.specs.laws.StoreLaws.{sets-append, sets-front}
 use Rattle.strings.specs.laws.PackLaws.{write-cleared}
+use Rattle.strings.specs.Refusals.{refusalNumber}
+use Rattle.strings.specs.declared.Refusal.the-variants.{BufferTooShort}
+use Rattle.strings.specs.laws.ResultLaws.{no-value, value-is}
+use Rattle.messages.specs.declared.WriteResult.{WriteResult}
 use Rattle.messages.specs.declared.WriteResult.the-variants.{Written, TooShort}
-use Rattle.messages.specs.Writing.{saidWrite, putFront}
+use Rattle.messages.specs.Writing.{Wrote, saidWrite, putFront}
 
 module _ (m buf : List ℕ) where
   pub put-short : length buf < length m → saidWrite TooShort buf ≡ putFront m buf
@@ -102,3 +106,10 @@ part-sets buf u m at h e =
     let k : sets (drop at buf) 0 m ≡ m ++ drop (at + length m) buf =
     sets-eq m (drop at buf) 0 (omega arith) ∙ ap (λ (l : List ℕ). m ++ l) (ap (λ (i : ℕ). drop i (drop at buf)) (zero-add (length m)) ∙ drop-drop (length m) at buf) in
     rw (f, append-nil u) (ap (λ (l : List ℕ). take at buf ++ l) (e ∙ ap (λ (l : List ℕ). sets l 0 m) g ∙ k) ∙ sym (append-assoc (take at buf) m (drop (at + length m) buf)) ∙ sym (sets-eq m buf at h))
+
+-- a message for which there is room was written
+pub wrote-is : (w : WriteResult) (t m buf : List ℕ) → saidWrite w t ≡ putFront m buf → length m ≤ length buf → (w ≡ Written (length m)) × (t ≡ atFront m buf)
+wrote-is (Written n) t m buf e h =
+    let f = e ∙ put-fits m buf h in
+    (ap Written (value-is (ap (λ (r : Wrote). r .answer) f)), ap (λ (r : Wrote). r .buffer) f)
+wrote-is TooShort t m buf e h = absurd (no-value (refusalNumber BufferTooShort) (length m) (ap (λ (r : Wrote). r .answer) (e ∙ put-fits m buf h)))

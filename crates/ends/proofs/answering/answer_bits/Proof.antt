@@ -17,7 +17,7 @@ same-length : tie.Need-same-length
 same-length c = search needs
 
 returns : tie.Need-returns
-returns c = written-said _ _ _ _ _ _ _ _ (c .reply-written .ensures) (c .before .before .before .write-bits .ensures) (c .before .before .before .before .before .one-more .ensures) refl
+returns c = written-said _ _ _ _ _ _ _ (c .before .before .before .write-bits .result) (c .reply-written .ensures) (c .before .before .before .write-bits .ensures) (c .before .before .before .before .before .one-more .ensures) refl
 
 pub answer-bits-spec : {M : Type 1} → statement M
 answer-bits-spec =

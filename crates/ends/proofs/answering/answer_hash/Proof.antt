@@ -22,7 +22,7 @@ same-length : tie.Need-same-length
 same-length c = search needs
 
 returns : tie.Need-returns
-returns c = written-said _ _ _ _ _ _ _ _ (c .reply-written .ensures) (c .before .before .before .write-hash .ensures) (c .before .before .before .before .before .before .one-more .ensures) (ap (λ (v : ℕ). answerBytes (hashAnswer v)) (c .before .before .before .before .before .hash-of .ensures))
+returns c = written-said _ _ _ _ _ _ _ (c .before .before .before .write-hash .result) (c .reply-written .ensures) (c .before .before .before .write-hash .ensures) (c .before .before .before .before .before .before .one-more .ensures) (ap (λ (v : ℕ). answerBytes (hashAnswer v)) (c .before .before .before .before .before .hash-of .ensures))
 
 pub answer-hash-spec : {M : Type 1} → statement M
 answer-hash-spec =

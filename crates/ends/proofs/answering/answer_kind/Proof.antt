@@ -1,7 +1,7 @@
 use mathlib.Core.Path.{sym, _∙_}
 use lib.ListN.{length}
 use borrow.Author.Tests.{not-true, not-false}
-use Rattle.ends.specs.code.HolderCodeLaws.{refused-said, kind-out-of-turn, kind-fields, able-ready, said-by}
+use Rattle.ends.specs.code.HolderCodeLaws.{kind-no-fields, refused-said, kind-out-of-turn, kind-fields, able-ready, said-by}
 use borrow.Author.Needs.{needs}
 use Rattle.ends.proofs.answering.answer_kind.Statement.{statement}
 use Rattle.ends.proofs.answering.answer_kind.Tie as tie
@@ -35,7 +35,7 @@ answer-question-requires c κs = let a = c .before .before .before .before .befo
 returns-2 : tie.Need-returns-2
 returns-2 c = let a = c .before .before .before .before .before .before .before .before .before .before .args in
     refused-said (a .reply .now) (c .refuse2 .ensures)
-    (kind-fields (a .st) (a .x .now) (a .n) (a .msg .now) (length (a .reply .now)) (a .kind) (a .at) (sym (c .before .before .before .before .before .before .is-in-turn .ensures) ∙ not-false _ (c .before .before .before .before .before .if1 .left)) (c .before .before .before .before .read-fields .ensures) (c .before .before .e .given .1))
+    (kind-no-fields (a .st) (a .x .now) (a .n) (a .msg .now) (length (a .reply .now)) (a .kind) (a .at) (sym (c .before .before .before .before .before .before .is-in-turn .ensures) ∙ not-false _ (c .before .before .before .before .before .if1 .left)) (c .before .before .before .before .read-fields .ensures) (c .before .before .e .given .1))
 
 same-length : tie.Need-same-length
 same-length c = search needs

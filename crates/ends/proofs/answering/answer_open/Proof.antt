@@ -14,7 +14,7 @@ same-length : tie.Need-same-length
 same-length c = search needs
 
 returns : tie.Need-returns
-returns c = written-said _ _ _ _ _ _ _ _ (c .reply-written .ensures) (c .before .before .before .write-size .ensures) refl refl
+returns c = written-said _ _ _ _ _ _ _ (c .before .before .before .write-size .result) (c .reply-written .ensures) (c .before .before .before .write-size .ensures) refl refl
 
 pub answer-open-spec : {M : Type 1} → statement M
 answer-open-spec =

@@ -29,7 +29,7 @@ same-length : tie.Need-same-length
 same-length c = search needs
 
 returns : tie.Need-returns
-returns c = written-said _ _ _ _ _ _ _ _ (c .reply-written .ensures) (c .before .before .before .write-syndrome .ensures) (c .before .before .before .before .before .before .before .one-more .ensures) (ap₂ (λ (a v : ℕ). answerBytes (syndromeAnswer a v)) (c .before .before .before .before .before .before .syndrome-of .ensures) (c .before .before .before .before .before .hash-of .ensures))
+returns c = written-said _ _ _ _ _ _ _ (c .before .before .before .write-syndrome .result) (c .reply-written .ensures) (c .before .before .before .write-syndrome .ensures) (c .before .before .before .before .before .before .before .one-more .ensures) (ap₂ (λ (a v : ℕ). answerBytes (syndromeAnswer a v)) (c .before .before .before .before .before .before .syndrome-of .ensures) (c .before .before .before .before .before .hash-of .ensures))
 
 pub answer-syndrome-spec : {M : Type 1} → statement M
 answer-syndrome-spec =

@@ -6,7 +6,7 @@ use borrow.Author.Tests.{not-true, not-false}
 use Rattle.strings.specs.StringRule.{stringRule}
 use Rattle.ends.specs.Soundness.{holderSound}
 use Rattle.ends.specs.HolderCall.{sameBitCount}
-use Rattle.ends.specs.code.HolderCodeLaws.{refused-said, tests-able, able-few, call-bad-string, call-out-of-turn, call-kind, said-by}
+use Rattle.ends.specs.code.HolderCodeLaws.{call-no-kind, refused-said, tests-able, able-few, call-bad-string, call-out-of-turn, call-kind, said-by}
 use Rattle.strings.specs.laws.Tests.{test-is}
 use borrow.Author.Needs.{needs}
 use Rattle.ends.proofs.answering.holder_call.Statement.{statement}
@@ -66,7 +66,7 @@ answer-kind-requires : tie.Need-answer-kind-requires
 answer-kind-requires c κs = let d = c .before .before .before .before .before in tests-able _ _ _ (string-kept (d .before .before .before .before)) (answer-left d)
 
 returns-3 : tie.Need-returns-3
-returns-3 c = let d = c .before .before .before .before .before in refused-said (c .before .before .before .before .before .before .before .before .before .before .before .before .before .before .before .before .args .reply .now) (c .refuse3 .ensures) (call-kind _ _ _ _ _ (string-kept (d .before .before .before .before)) (answer-left d) (c .before .before .before .before .read-kind .ensures) (c .before .before .e .given .1))
+returns-3 c = let d = c .before .before .before .before .before in refused-said (c .before .before .before .before .before .before .before .before .before .before .before .before .before .before .before .before .args .reply .now) (c .refuse3 .ensures) (call-no-kind _ _ _ _ _ (string-kept (d .before .before .before .before)) (answer-left d) (c .before .before .before .before .read-kind .ensures) (c .before .before .e .given .1))
 
 same-length : tie.Need-same-length
 same-length c = search needs

@@ -1,9 +1,11 @@
+use Rattle.strings.specs.Results.{andThen}
+use Rattle.messages.specs.Answers.{saidAnswer}
 use mathlib.Core.Path.{_≡_, sym, _∙_}
 use mathlib.Core.Option.{some}
 use native.Mathlib.Omega.{arith}
 use lib.ListN.{length}
 use borrow.Author.Tests.{not-true, not-false}
-use Rattle.ends.specs.RebuilderCall.{awaits, hears}
+use Rattle.ends.specs.RebuilderCall.{awaits, given}
 use Rattle.ends.specs.RebuilderOutcome.{rooms}
 use Rattle.ends.specs.code.RebuilderParts.{Due}
 use Rattle.ends.specs.laws.SoundParts.{sound-is}
@@ -17,13 +19,13 @@ use Rattle.ends.proofs.rebuilding.hear.Tie as tie
 due-now : (c : tie.After-read-answer) → let a = c .before .before .before .before .before .before .before .args in Due (a .st) (a .msg .now) (c .before .before .question-length .result) (c .read-answer .result)
 due-now c =
     let s = c .before .before .before .before .before .before .before in
-    due (s .args .st) _ (s .args .q) (c .before .before .question-length .ensures) (c .before .question-kind .ensures) (c .read-answer .ensures) (s .pre .0) (s .pre .1) (pieces-held (s .args .st) _ (s .good .0)) (λ i. c .before .before .before .before .before .shared-slice-known2 .given i .fits)
+    due (s .args .st) _ (s .args .q) _ _ (c .read-answer .result) (c .before .before .question-length .ensures) (c .before .question-kind .ensures) (c .read-answer .ensures .0) (s .pre .0) (s .pre .1) (pieces-held (s .args .st) _ (s .good .0)) (λ i. c .before .before .before .before .before .shared-slice-known2 .given i .fits) (c .read-answer .ensures .1)
 
 heard : (c : tie.After-read-answer) → let a = c .before .before .before .before .before .before .before .args in let r = rooms (length (a .string .now)) (a .rows) (length (a .question .now)) in
-    awaits (a .st) (a .y .now) (a .msg .now) r (some (a .q)) ≡ hears (a .st) (a .y .now) (a .msg .now) r (c .before .before .question-length .result) (c .read-answer .result)
+    awaits (a .st) (a .y .now) (a .msg .now) r (some (a .q)) ≡ andThen (saidAnswer (a .msg .now) (c .before .before .question-length .result) (c .read-answer .result)) (given (a .st) (a .y .now) (a .msg .now) r)
 heard c =
     let a = c .before .before .before .before .before .before .before .args in
-    awaits-hears (a .st) _ (a .q) (c .before .before .question-length .ensures) (c .before .question-kind .ensures) (c .read-answer .ensures) _ _
+    awaits-hears (a .st) _ (a .q) _ _ (c .read-answer .result) (c .before .before .question-length .ensures) (c .before .question-kind .ensures) (c .read-answer .ensures .0) (a .y .now) (rooms (length (a .string .now)) (a .rows) (length (a .question .now)))
 
 question-length-requires : tie.Need-question-length-requires
 question-length-requires c κs = search needs

@@ -72,7 +72,7 @@ same-length c = search needs
 returns-4 : tie.Need-returns-4
 returns-4 c =
     let a = c .before .before .before .before .before .before .before .before .before .before .before .before .before .before .args in
-    absurd (start-fits (a .settings) (a .y .now) (a .bits) (a .question .now) (limits-kept (c .before .before .before .before .before .before .before .before .before .before)) (string-kept (c .before .before .before .before .before .before .before .before)) (let h = c .before .before .before .before .before .before .before .if3 .left in omega arith) (c .before .before .before .before .before .write-question .ensures) (c .before .enum-told .given .1))
+    absurd (start-fits (a .settings) (a .y .now) (a .bits) (a .question .now) (limits-kept (c .before .before .before .before .before .before .before .before .before .before)) (string-kept (c .before .before .before .before .before .before .before .before)) (let h = c .before .before .before .before .before .before .before .if3 .left in omega arith) _ _ (c .before .before .before .before .before .write-question .ensures) (c .before .enum-told .given .1))
 
 same-length-2 : tie.Need-same-length-2
 same-length-2 c = search needs
@@ -80,7 +80,7 @@ same-length-2 c = search needs
 returns-5 : tie.Need-returns-5
 returns-5 c =
     let a = c .before .before .before .before .before .before .before .before .before .before .before .before .before .before .before .args in
-    start-begun (a .settings) (a .y .now) (a .bits) (a .question .now) (limits-kept (c .before .before .before .before .before .before .before .before .before .before .before)) (string-kept (c .before .before .before .before .before .before .before .before .before)) (let h = c .before .before .before .before .before .before .before .before .if3 .left in omega arith) (c .before .before .before .before .before .before .write-question .ensures) (c .before .before .size .given .1) (c .fresh-rebuilder .ensures)
+    start-begun (a .settings) (a .y .now) (a .bits) (a .question .now) (limits-kept (c .before .before .before .before .before .before .before .before .before .before .before)) (string-kept (c .before .before .before .before .before .before .before .before .before)) (let h = c .before .before .before .before .before .before .before .before .if3 .left in omega arith) _ _ (c .before .before .before .before .before .before .write-question .ensures) (c .before .before .size .given .1) (c .fresh-rebuilder .ensures)
 
 pub rebuilder-start-spec : {M : Type 1} → statement M
 rebuilder-start-spec =

@@ -45,7 +45,7 @@ returns-2 c =
     let at-q = at-write-question .before .before .before in
     let at-plan-next = at-q .before .before in
     let s = at-plan-next .before .before in
-    absurd (short-out (s .args .s) (s .args .change) _ (s .pre .0) (s .pre .1) (at-plan-next .plan-next .ensures) (at-q .q .given .1) (at-write-question .write-question .ensures) (c .before .enum-told2 .given .1))
+    absurd (short-out (s .args .s) (s .args .change) _ (s .pre .0) (s .pre .1) (at-plan-next .plan-next .ensures) (at-q .q .given .1) _ _ (at-write-question .write-question .ensures) (c .before .enum-told2 .given .1))
 
 same-length-2 : tie.Need-same-length-2
 same-length-2 c = search needs
@@ -56,7 +56,7 @@ returns-3 c =
     let at-q = at-write-question .before .before .before in
     let at-plan-next = at-q .before .before in
     let s = at-plan-next .before .before in
-    asked-out (s .args .s) (s .args .change) _ (s .pre .0) (s .pre .1) (at-plan-next .plan-next .ensures) (at-q .q .given .1) (at-write-question .write-question .ensures) (c .before .before .size .given .1) _ (c .give3 .ensures)
+    asked-out (s .args .s) (s .args .change) _ (s .pre .0) (s .pre .1) (at-plan-next .plan-next .ensures) (at-q .q .given .1) _ _ (at-write-question .write-question .ensures) (c .before .before .size .given .1) _ (c .give3 .ensures)
 
 pub finish-spec : {M : Type 1} → statement M
 finish-spec =

@@ -1,8 +1,8 @@
-use mathlib.Core.Path.{_≡_, refl}
+use mathlib.Core.Path.{_≡_, refl, sym, ap, _∙_}
 use native.Mathlib.Omega.{arith}
 use Rattle.strings.specs.Results.{Result, value}
-use Rattle.messages.specs.Numbers.{numberAt}
-use Rattle.messages.specs.laws.NumberLaws.{no-number, read-there, number-inside}
+use Rattle.messages.specs.Numbers.{numberAt, saidNumber}
+use Rattle.messages.specs.laws.NumberLaws.{read-decides, number-inside}
 use Rattle.messages.specs.declared.Kind.{Kind}
 use Rattle.messages.specs.declared.Kind.the-variants.{Open, Hash, Syndrome}
 use Rattle.messages.specs.Answers.{Answer, answerFields, readAnswer}
@@ -13,7 +13,7 @@ use Rattle.messages.proofs.answers.read_answer.Tie as tie
 
 -- the number that the answer begins with
 number-read : (c : tie.After-v) → numberAt (c .before .before .before .before .args .s .now) 0 ≡ value (c .v .given .0 .0, c .v .given .0 .1 .0)
-number-read c = read-there (c .before .before .next-number .ensures) (c .v .given .1)
+number-read c = sym (c .before .before .next-number .ensures) ∙ ap saidNumber (c .v .given .1)
 
 abbrev start : tie.Else1 → tie.Start
 start c = c .before .before .before .before .before .before .before
@@ -64,7 +64,7 @@ read-bits-requires c κs = number-inside _ _ _ _ (number-read (c .before .before
 
 returns-2 : tie.Need-returns-2
 unfolding readAnswer
-returns-2 c = (no-number (c .before .before .before .next-number .ensures) _ refl (c .before .e .given .1), tt)
+returns-2 c = (sym (read-decides saidNumber (c .before .before .before .next-number .ensures) _ refl (c .before .e .given .1)), tt)
 
 returns-3 : tie.Need-returns-3
 unfolding answerFields

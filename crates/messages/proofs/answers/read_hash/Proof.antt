@@ -6,7 +6,8 @@ use Rattle.strings.specs.Results.{value, unless}
 use Rattle.strings.specs.declared.Refusal.the-variants.{TrailingBytes, OutOfRange}
 use Rattle.messages.specs.Answers.{hashAnswer, hashAt}
 use borrow.Author.Tests.{le-leb, lt-leb, not-true, not-false}
-use Rattle.messages.specs.laws.NumberLaws.{no-number, the-number}
+use Rattle.messages.specs.Numbers.{saidNumber}
+use Rattle.messages.specs.laws.NumberLaws.{read-decides}
 use borrow.Author.Needs.{needs}
 use Rattle.messages.proofs.answers.read_hash.Statement.{statement}
 use Rattle.messages.proofs.answers.read_hash.Tie as tie
@@ -15,7 +16,7 @@ use Rattle.messages.proofs.answers.read_hash.Tie as tie
 v-read : (c : tie.After-v) → let a = c .before .before .before .before .args in let v = c .v .given .0 .0 in
     hashAt (a .h) (a .s .now) (a .at) ≡ unless (leb (length (a .s .now)) (c .v .given .0 .1 .0)) TrailingBytes (unless (ltb v (2 ^ a .h)) OutOfRange (value (hashAnswer v)))
 unfolding hashAt
-v-read c = the-number (c .before .before .next-number .ensures) _ refl (c .v .given .1)
+v-read c = read-decides saidNumber (c .before .before .next-number .ensures) _ refl (c .v .given .1)
 
 next-number-requires : tie.Need-next-number-requires
 next-number-requires c κs = search needs
@@ -37,7 +38,7 @@ returns-2 c len = sym (v-read (c .before .before .before .before) ∙ simp (le-l
 
 returns-3 : tie.Need-returns-3
 unfolding hashAt
-returns-3 c len = no-number (c .before .before .before .next-number .ensures) _ refl (c .before .e .given .1)
+returns-3 c len = sym (read-decides saidNumber (c .before .before .before .next-number .ensures) _ refl (c .before .e .given .1))
 
 returns-4 : tie.Need-returns-4
 returns-4 c len = sym (v-read (c .before .before .before .before) ∙ simp (le-leb _ _ (c .before .before .if1 .left), sym (c .before .is-hash .ensures) ∙ not-false _ (c .if2 .left)))

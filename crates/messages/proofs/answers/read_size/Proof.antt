@@ -6,7 +6,8 @@ use Rattle.strings.specs.Results.{value, unless}
 use Rattle.strings.specs.declared.Refusal.the-variants.{TrailingBytes, OutOfRange}
 use Rattle.messages.specs.Answers.{sizeAnswer, sizeAt}
 use borrow.Author.Tests.{le-leb, lt-leb}
-use Rattle.messages.specs.laws.NumberLaws.{no-number, the-number}
+use Rattle.messages.specs.Numbers.{saidNumber}
+use Rattle.messages.specs.laws.NumberLaws.{read-decides}
 use borrow.Author.Needs.{needs}
 use Rattle.messages.proofs.answers.read_size.Statement.{statement}
 use Rattle.messages.proofs.answers.read_size.Tie as tie
@@ -15,7 +16,7 @@ use Rattle.messages.proofs.answers.read_size.Tie as tie
 n-read : (c : tie.After-n) → let a = c .before .before .before .before .args in let n = c .n .given .0 .0 in
     sizeAt (a .s .now) (a .at) ≡ unless (leb (length (a .s .now)) (c .n .given .0 .1 .0)) TrailingBytes (unless (leb n maxBits) OutOfRange (value (sizeAnswer n)))
 unfolding sizeAt
-n-read c = the-number (c .before .before .next-number .ensures) _ refl (c .n .given .1)
+n-read c = read-decides saidNumber (c .before .before .next-number .ensures) _ refl (c .n .given .1)
 
 next-number-requires : tie.Need-next-number-requires
 next-number-requires c κs = search needs
@@ -37,7 +38,7 @@ returns-2 c len = sym (n-read (c .before .before .before) ∙ simp (le-leb _ _ (
 
 returns-3 : tie.Need-returns-3
 unfolding sizeAt
-returns-3 c len = no-number (c .before .before .before .next-number .ensures) _ refl (c .before .e .given .1)
+returns-3 c len = sym (read-decides saidNumber (c .before .before .before .next-number .ensures) _ refl (c .before .e .given .1))
 
 returns-4 : tie.Need-returns-4
 returns-4 c len = sym (n-read (c .before .before .before) ∙ simp (le-leb _ _ (c .before .if1 .left), le-leb _ _ (c .if2 .left)))
