@@ -104,7 +104,7 @@ holder-same p q r s t = rw (p, q, r, s, t) refl
 pub holder-read : (st : Holder) (l : List ℕ) → HolderFits st → holderOf (holderBytes st ++ l) ≡ st
 unfolding holderOf holderBytes allBytes bytesOf wordAt
 holder-read st l f =
-    holder-same 
+    holder-same
     (ap openedOf (digits (openedNumber (st .opened)) (let k = opened-most (st .opened) in omega arith)) ∙ opened-back (st .opened))
     (digits (st .bits) (f .bits-fits)) (digits (st .h) (f .h-fits)) (digits (st .key) (f .key-fits))
     (digits (st .answers) (f .answers-fits))
