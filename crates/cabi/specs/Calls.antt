@@ -14,7 +14,7 @@ use Rattle.strings.specs.declared.settings.Settings.{Settings}
 use Rattle.strings.specs.SettingLimits.{withinLimits}
 use Rattle.ends.specs.HolderCall.{Heard, declines, replies, unlessHeard, holderCall, freshHolder}
 use Rattle.ends.specs.RebuilderCall.{Started, startDeclines, starts, unlessStarted, rebuilderStart, Taken, refuses, takes, unlessTaken, Rooms, rebuilderCall, stringAfter}
-use Rattle.layout.specs.Layout.{holderSize, holderBytes, holderOf, rebuilderSize, rebuilderBytes, rebuilderOf}
+use Rattle.layout.specs.Layout.{holderSize, holderBytes, holderOf, isHolder, rebuilderSize, rebuilderBytes, rebuilderOf, isRebuilder}
 use Rattle.layout.specs.Sheet.{rowSize, sheetBytesAfter}
 use Rattle.cabi.specs.Packing.{packed}
 
@@ -29,11 +29,11 @@ holderMade s = cond (leb holderSize (length s))
     (record { result = packed (refusal 9); state = s })
 
 -- ---- the holder's call
--- with the bytes s of its state, the bytes x of X, their bit count, a message and a reply buffer of room bytes: fewer bytes than a state's get 3, after 2
+-- with the bytes s of its state, the bytes x of X, their bit count, a message and a reply buffer of room bytes: bytes that no state has get 3, after 2
 unfoldable pub holderOnBytes : (s x : List ℕ) (bits : ℕ) (msg : List ℕ) (room : ℕ) → Heard
 holderOnBytes s x bits msg room =
     unlessHeard (stringRule x bits) BadString (
-    unlessHeard (leb holderSize (length s)) OutOfTurn (
+    unlessHeard (isHolder s) OutOfTurn (
     holderCall (holderOf s) x bits msg room))
 
 pub record HolderLeft : Type 0 where
@@ -66,11 +66,11 @@ startLeft s question (startDeclines e) = record { result = packed (refusal (refu
 startLeft s question (starts st m) = record { result = packed (value (length m)); state = atFront (rebuilderBytes st) s; question = atFront m question }
 
 -- ---- the rebuilder's call
--- with the bytes s of its state, the bytes y of Y, their bit count and a message: fewer bytes than a state's get 3, after 2
+-- with the bytes s of its state, the bytes y of Y, their bit count and a message: bytes that no state has get 3, after 2
 unfoldable pub rebuilderOnBytes : (s y : List ℕ) (bits : ℕ) (msg : List ℕ) → Rooms → Taken
 rebuilderOnBytes s y bits msg rooms =
     unlessTaken (stringRule y bits) BadString (
-    unlessTaken (leb rebuilderSize (length s)) OutOfTurn (
+    unlessTaken (isRebuilder s) OutOfTurn (
     rebuilderCall (rebuilderOf s) y bits msg rooms))
 
 -- the room in lent bytes; that of the sheet in rows

@@ -1,7 +1,7 @@
 // The C interface: what a host calls, on numbers and byte slices. include/lunetteorris.h declares it, docs/LAYOUT.md has the layouts.
 // A result is value * 16 + refusal (specs/Packing.antt).
-// A state stands in the first bytes of its slice, which may have more: those are neither read nor written. Fewer get 3 in the calls, 9 in
-// the two functions that make a state.
+// A state stands in the first bytes of its slice, which may have more: those are neither read nor written. Bytes that no state has get 3
+// in the calls; too few for a state get 9 in the two functions that make one.
 ghost use mathlib.Core.Path.{_≡_};
 ghost use mathlib.Core.List.{_++_};
 ghost use Prim.Native.Nat.{_*_, _≤_};
@@ -98,7 +98,7 @@ pub extern "C" fn lo_holder_answer(
     if !strings::keeps_string_rule(x, bits) {
         return 2;
     }
-    if state.len() < HOLDER_BYTES {
+    if !layout::holds_holder(state) {
         return 3;
     }
     let st = layout::read_holder(state);
@@ -180,7 +180,7 @@ pub extern "C" fn lo_rebuilder_call(
     if !strings::keeps_string_rule(y, bits) {
         return 2;
     }
-    if state.len() < REBUILDER_BYTES {
+    if !layout::holds_rebuilder(state) {
         return 3;
     }
     let st = layout::read_rebuilder(state);

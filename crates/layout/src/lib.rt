@@ -1,11 +1,14 @@
-// States and sheet as bytes (docs/LAYOUT.md), for the C interface; the demonstration program keeps its sheet so too. The functions
-// require that the slice is long enough: an entry point tests its length first, and the demonstration's sheet has room for every run.
+// States and sheet as bytes (docs/LAYOUT.md), for the C interface; the demonstration program keeps its sheet so too. Reading and writing
+// require that the slice is long enough: an entry point tests it first, and the demonstration's sheet has room for every run.
+mod cases;
 mod numbers;
 mod sheet;
 mod state;
 
 pub use sheet::apply_change;
 pub use sheet::read_row;
+pub use state::holds_holder;
+pub use state::holds_rebuilder;
 pub use state::read_holder;
 pub use state::read_rebuilder;
 pub use state::write_holder;

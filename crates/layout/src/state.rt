@@ -1,11 +1,20 @@
-// The bytes of a holder's and of a rebuilder's state (docs/LAYOUT.md). An entry point tests the slice's length before it comes here.
+// The bytes of a holder's and of a rebuilder's state (docs/LAYOUT.md). An entry point tests them before it reads a state: else bytes that
+// no state has would be read as one.
 ghost use mathlib.Core.Path.{_≡_};
 ghost use mathlib.Core.List.{[], _++_};
 ghost use Prim.Native.Nat.{_+_, _≤_};
 ghost use lib.ListN.{length, drop, replicate};
 ghost use lib.Seq.{sets};
 ghost use Rattle.ends.specs.States.{noPiece};
-ghost use Rattle.layout.specs.Layout.{holderSize, holderBytes, holderOf, pieceBytes, pieceAt, piecesBytes, rebuilderSize, fieldBytes, rebuilderBytes, fieldsOf, rebuilderOf};
+ghost use Rattle.layout.specs.Layout.{holderSize, holderBytes, holderOf, isHolder, pieceBytes, pieceAt, piecesBytes, rebuilderSize, fieldBytes, rebuilderBytes, fieldsOf, rebuilderOf, isRebuilder};
+use crate::HOLDER_BYTES;
+use crate::REBUILDER_BYTES;
+use crate::cases::opened_number;
+use crate::cases::opened_of;
+use crate::cases::phase_number;
+use crate::cases::phase_of;
+use crate::cases::stage_number;
+use crate::cases::stage_of;
 use crate::numbers::read_u32;
 use crate::numbers::write_four;
 use crate::numbers::write_u32;
@@ -21,13 +30,23 @@ const NO_PIECE: Piece = Piece {
     q: 0,
 };
 
+// Whether the first bytes are those of some holder's state.
+pub fn holds_holder(s: &[u8]) -> bool
+    ensures { λ r. ⌜ r ≡ isHolder (now (s .entry)) ⌝ }
+{
+    if s.len() < HOLDER_BYTES {
+        return false;
+    }
+    read_u32(s, 0) <= 1
+}
+
 // The holder's state that the first 20 bytes say.
 pub fn read_holder(s: &[u8]) -> Holder
     requires { ⌜ holderSize ≤ length (now s) ⌝ }
     ensures { λ r. ⌜ r ≡ holderOf (now (s .entry)) ⌝ }
 {
     Holder {
-        opened: read_u32(s, 0),
+        opened: opened_of(read_u32(s, 0)),
         bits: read_u32(s, 4),
         h: read_u32(s, 8),
         key: read_u32(s, 12),
@@ -40,7 +59,8 @@ pub fn write_holder(s: &mut [u8], st: Holder)
     requires { ⌜ holderSize ≤ length (now s) ⌝ }
     ensures { λ r. ⌜ now (s .exit) ≡ holderBytes st ++ drop holderSize (now (s .entry)) ⌝ }
 {
-    write_four(s, 0, st.opened, st.bits, st.h, st.key);
+    let opened = opened_number(st.opened);
+    write_four(s, 0, opened, st.bits, st.h, st.key);
     write_u32(s, 16, st.answers);
 }
 
@@ -79,21 +99,36 @@ fn read_settings(s: &[u8]) -> Settings
     }
 }
 
+// Whether the first bytes are those of some rebuilder's state.
+pub fn holds_rebuilder(s: &[u8]) -> bool
+    ensures { λ r. ⌜ r ≡ isRebuilder (now (s .entry)) ⌝ }
+{
+    if s.len() < REBUILDER_BYTES {
+        return false;
+    }
+    if read_u32(s, 24) > 2 {
+        return false;
+    }
+    read_u32(s, 44) <= 6
+}
+
 // A rebuilder's state but for its pieces.
 fn read_fields(s: &[u8]) -> Rebuilder
     requires { ⌜ 52 ≤ length (now s) ⌝ }
     ensures { λ r. ⌜ r ≡ fieldsOf (now (s .entry)) (replicate 32 noPiece) ⌝ }
 {
     let settings = read_settings(s);
+    let phase = phase_of(read_u32(s, 24));
+    let stage = stage_of(read_u32(s, 44));
     Rebuilder {
         settings: settings,
         ybits: read_u32(s, 20),
-        phase: read_u32(s, 24),
+        phase: phase,
         n: read_u32(s, 28),
         answered: read_u32(s, 32),
         counted: read_u32(s, 36),
         rows: read_u32(s, 40),
-        stage: read_u32(s, 44),
+        stage: stage,
         waiting: read_u32(s, 48),
         pieces: [NO_PIECE; 32],
     }
@@ -120,9 +155,13 @@ fn write_fields(s: &mut [u8], st: Rebuilder)
     ensures { λ r. ⌜ now (s .exit) ≡ sets (now (s .entry)) 0 (fieldBytes st) ⌝ }
 {
     let set = st.settings;
+    let p = st.phase;
+    let t = st.stage;
+    let phase = phase_number(p);
+    let stage = stage_number(t);
     write_four(s, 0, set.m, set.h, set.k, set.key);
-    write_four(s, 16, set.ceiling, st.ybits, st.phase, st.n);
-    write_four(s, 32, st.answered, st.counted, st.rows, st.stage);
+    write_four(s, 16, set.ceiling, st.ybits, phase, st.n);
+    write_four(s, 32, st.answered, st.counted, st.rows, stage);
     write_u32(s, 48, st.waiting);
 }
 

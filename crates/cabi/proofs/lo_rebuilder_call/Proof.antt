@@ -3,6 +3,8 @@ use mathlib.Core.Bool.{true}
 use borrow.Author.Tests.{not-true, not-false}
 use Rattle.strings.specs.StringRule.{stringRule}
 use Rattle.ends.specs.RebuilderOutcome.{callSaid}
+use Rattle.layout.specs.Layout.{isRebuilder}
+use Rattle.layout.specs.laws.LayoutLaws.{rebuilder-long}
 use Rattle.cabi.specs.laws.RebuilderBytesLaws.{call-bad-string, call-no-state, RebuilderCalled, call-rows, call-small, call-declined, call-taken}
 use borrow.Author.Needs.{needs}
 use Rattle.cabi.proofs.lo_rebuilder_call.Statement.{statement}
@@ -12,12 +14,16 @@ use Rattle.cabi.proofs.lo_rebuilder_call.Tie as tie
 string-kept : (c : tie.Else1) → let args = c .before .before .before .before .before .before .before .before .args in stringRule (args .y .now) (args .bits) ≡ true
 string-kept c = sym (c .before .keeps-string-rule .ensures) ∙ not-false _ (c .if1 .left)
 
+-- what the second shows
+state-held : (c : tie.Else2) → isRebuilder (c .before .before .before .before .before .before .before .before .before .before .before .args .state .now) ≡ true
+state-held c = sym (c .before .holds-rebuilder .ensures) ∙ not-false _ (c .if2 .left)
+
 -- what is known where the call on the state has answered
 abbrev called : tie.After-rebuilder-call → RebuilderCalled
 called c =
     let read = c .before .before .before in
     let if2 = read .before .before in
-    let a = if2 .before .before .before .before .before .before .before .before .before .args in
+    let a = if2 .before .before .before .before .before .before .before .before .before .before .before .args in
     record {
       s = a .state .now;
       y = a .y .now;
@@ -30,8 +36,8 @@ called c =
       question′ = _;
       st = _;
       out = c .rebuilder-call .result;
-      rule = string-kept (if2 .before);
-      whole = if2 .if2 .left;
+      rule = string-kept (if2 .before .before .before);
+      whole = state-held if2;
       read = read .read-rebuilder .ensures;
       said = c .rebuilder-call .ensures;
     }
@@ -42,11 +48,17 @@ keeps-string-rule-requires c κs = search needs
 returns : tie.Need-returns
 returns c = call-bad-string _ _ _ _ _ _ _ (sym (c .before .keeps-string-rule .ensures) ∙ not-true _ (c .if1 .taken))
 
+holds-rebuilder-requires : tie.Need-holds-rebuilder-requires
+holds-rebuilder-requires c κs = search needs
+
+same-length : tie.Need-same-length
+same-length c = search needs
+
 returns-2 : tie.Need-returns-2
-returns-2 c = call-no-state _ _ _ _ _ _ _ (string-kept (c .before)) (c .if2 .taken)
+returns-2 c = call-no-state _ _ _ _ _ _ _ (string-kept (c .before .before .before)) (sym (c .before .holds-rebuilder .ensures) ∙ not-true _ (c .if2 .taken))
 
 read-rebuilder-requires : tie.Need-read-rebuilder-requires
-read-rebuilder-requires c κs = search needs
+read-rebuilder-requires c κs = rebuilder-long _ (state-held (c .before))
 
 rebuilder-call-requires : tie.Need-rebuilder-call-requires
 rebuilder-call-requires c κs = search needs
@@ -61,16 +73,13 @@ enum-told : tie.Need-enum-told
 enum-told c = search needs
 
 keep-requires : tie.Need-keep-requires
-keep-requires c κs = (search needs, (call-rows (called (c .before .before .before .before .before .before .before .before .before)), search needs))
+keep-requires c κs = let k = called (c .before .before .before .before .before .before .before .before .before) in let long = rebuilder-long _ (k .whole) in (search needs, (call-rows k, search needs))
 
 enum-known-answer-2 : tie.Need-enum-known-answer-2
 enum-known-answer-2 c = search needs
 
 keep-requires-2 : tie.Need-keep-requires-2
-keep-requires-2 c κs = let k = called (c .before .before .before .before .before .before .before .before .before .before) in (search needs, (call-rows k, call-small k (ap callSaid (c .before .before .before .answer2 .given .1))))
-
-same-length : tie.Need-same-length
-same-length c = search needs
+keep-requires-2 c κs = let k = called (c .before .before .before .before .before .before .before .before .before .before) in let long = rebuilder-long _ (k .whole) in (search needs, (call-rows k, call-small k (ap callSaid (c .before .before .before .answer2 .given .1))))
 
 same-length-2 : tie.Need-same-length-2
 same-length-2 c = search needs
@@ -78,11 +87,11 @@ same-length-2 c = search needs
 same-length-3 : tie.Need-same-length-3
 same-length-3 c = search needs
 
-returns-3 : tie.Need-returns-3
-returns-3 c = call-declined (called (c .before .before .before .before .before .before .before .before .before)) (c .before .before .answer .given .1) (c .pack-refusal .ensures)
-
 same-length-4 : tie.Need-same-length-4
 same-length-4 c = search needs
+
+returns-3 : tie.Need-returns-3
+returns-3 c = call-declined (called (c .before .before .before .before .before .before .before .before .before)) (c .before .before .answer .given .1) (c .pack-refusal .ensures)
 
 same-length-5 : tie.Need-same-length-5
 same-length-5 c = search needs
@@ -93,13 +102,13 @@ same-length-6 c = search needs
 same-length-7 : tie.Need-same-length-7
 same-length-7 c = search needs
 
+same-length-8 : tie.Need-same-length-8
+same-length-8 c = search needs
+
 returns-4 : tie.Need-returns-4
 returns-4 c =
     let keep = c .before .before .before .before .keep .ensures in
     call-taken (called (c .before .before .before .before .before .before .before .before .before .before .before .before .before .before)) (ap callSaid (c .before .before .before .before .before .before .before .enum-told .given .1)) (keep .0) (keep .1 .0) (keep .1 .1)
-
-same-length-8 : tie.Need-same-length-8
-same-length-8 c = search needs
 
 same-length-9 : tie.Need-same-length-9
 same-length-9 c = search needs
@@ -109,6 +118,9 @@ same-length-10 c = search needs
 
 same-length-11 : tie.Need-same-length-11
 same-length-11 c = search needs
+
+same-length-12 : tie.Need-same-length-12
+same-length-12 c = search needs
 
 returns-5 : tie.Need-returns-5
 returns-5 c =
@@ -121,6 +133,8 @@ lo-rebuilder-call-spec =
     (tie.spec
     keeps-string-rule-requires
     returns
+    holds-rebuilder-requires
+    same-length
     returns-2
     read-rebuilder-requires
     rebuilder-call-requires
@@ -130,17 +144,17 @@ lo-rebuilder-call-spec =
     keep-requires
     enum-known-answer-2
     keep-requires-2
-    same-length
     same-length-2
     same-length-3
-    returns-3
     same-length-4
+    returns-3
     same-length-5
     same-length-6
     same-length-7
-    returns-4
     same-length-8
+    returns-4
     same-length-9
     same-length-10
     same-length-11
+    same-length-12
     returns-5)

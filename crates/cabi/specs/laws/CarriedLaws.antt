@@ -1,6 +1,6 @@
 -- The bytes carry the rebuilder's state from call to call: what the start or a taken call leaves is read as its state.
 use mathlib.Core.Path.{_≡_}
-use mathlib.Core.Bool.{true, _&&_}
+use mathlib.Core.Bool.{true}
 use mathlib.Core.List.{List, _++_}
 use Prim.Native.Nat.{ℕ, zero, suc, _+_, _-_, _≤_, _<_}
 use native.Mathlib.Nat.{div-le-self}
@@ -8,26 +8,28 @@ use native.Mathlib.Omega.{arith}
 use native.Mathlib.Decide.{ℕ-discrete, decLt}
 use lib.ListN.{length, getD, List·getD-eq-default}
 use lib.Dec.{leb, eqb}
-use borrow.Author.Tests.{eqb-true, eq-eqb, ne-eqb}
 use Rattle.strings.specs.laws.PackLaws.{Bytes}
 use Rattle.strings.specs.StringRule.{stringRule}
 use Rattle.strings.specs.laws.RuleLaws.{rule-is}
-use Rattle.strings.specs.laws.Tests.{and-left, and-right, by-test}
+use Rattle.strings.specs.laws.Tests.{by-test}
 use Rattle.strings.specs.declared.Refusal.the-variants.{BadSetting, BadString, OutOfTurn, BufferTooShort}
 use Rattle.strings.specs.declared.settings.Settings.{Settings}
 use Rattle.ends.specs.declared.Piece.{Piece}
+use Rattle.ends.specs.declared.Phase.{Phase}
+use Rattle.ends.specs.declared.Phase.the-variants.{AtOpening, AtPieces, AtWhole}
 use Rattle.ends.specs.declared.Rebuilder.{Rebuilder}
 use Rattle.strings.specs.SettingLimits.{withinLimits}
 use Rattle.ends.specs.States.{noPiece, held}
-use Rattle.ends.specs.Soundness.{sound, wholeSound, phaseSound}
+use Rattle.ends.specs.Soundness.{sound, phaseSound, soundAt}
+use Rattle.ends.specs.laws.Counts.{before-most}
 use Rattle.ends.specs.laws.SoundLaws.{Ordered}
-use Rattle.ends.specs.laws.SoundParts.{top-most, Framed, sound-is, OpeningIs, opening-is, PiecesIs, pieces-is, WholeIs, whole-is}
+use Rattle.ends.specs.laws.SoundParts.{Framed, sound-is, OpeningIs, opening-is, PiecesIs, pieces-is, WholeIs, whole-is}
 use Rattle.ends.specs.laws.SoundSteps.{fresh-sound}
 use Rattle.ends.specs.RebuilderCall.{starts, unlessStarted, rebuilderStart, freshRebuilder, takes, unlessTaken, Step, Rooms, rebuilderCall}
 use Rattle.ends.specs.laws.Asking.{unless-taken, call-sound}
 use Rattle.ends.specs.laws.Delivery.{unless-started, started-is}
-use Rattle.layout.specs.Layout.{rebuilderSize, rebuilderBytes, rebuilderOf}
-use Rattle.layout.specs.laws.LayoutLaws.{PieceFits, RebuilderFits, rebuilder-read, rebuilder-pieces}
+use Rattle.layout.specs.Layout.{rebuilderSize, rebuilderBytes, rebuilderOf, isRebuilder}
+use Rattle.layout.specs.laws.LayoutLaws.{PieceFits, RebuilderFits, rebuilder-read, rebuilder-bytes-front, rebuilder-pieces}
 use Rattle.cabi.specs.Calls.{startOnBytes, rebuilderOnBytes}
 
 -- ---- every number of a sound state is below 2^32
@@ -58,52 +60,46 @@ pieces-fit st f l o i = go (decLt i (st .waiting)) (decLt i 32)
 
 -- the fields that the phase bounds
 record Bounded (st : Rebuilder) : Type 0 where
-  phase-most : st .phase ≤ 2
   answered-most : st .answered ≤ 1000000
   counted-most : st .counted ≤ 1000000
   rows-most : st .rows ≤ 1000000
-  stage-most′ : st .stage ≤ 4
   order : Ordered (st .n) (st .ybits) 0 0 (held (st .waiting) (st .pieces))
 
-opening-bounded : (st : Rebuilder) → st .phase ≡ 0 → OpeningIs st → Bounded st
-opening-bounded st p k =
+opening-bounded : (st : Rebuilder) → OpeningIs st → Bounded st
+opening-bounded st k =
     let a = k .answered in
     let c = k .counted in
     let r = k .rows in
-    let s = k .stage in
-    record { phase-most = omega arith; answered-most = omega arith; counted-most = omega arith; rows-most = omega arith; stage-most′ = omega arith; order = rw (k .waiting) tt }
+    record { answered-most = omega arith; counted-most = omega arith; rows-most = omega arith; order = rw (k .waiting) tt }
 
-pieces-bounded : (st : Rebuilder) → Framed st → st .phase ≡ 1 → PiecesIs st → Bounded st
-pieces-bounded st f p k =
+pieces-bounded : (st : Rebuilder) → Framed st → PiecesIs st → Bounded st
+pieces-bounded st f k =
     let l = f .limits .ceiling-most in
     let n = f .size in
     let q = div-le-self (st .n) (st .settings .m) in
-    let s = top-most st (k .stack .fits) in
+    let s = before-most (st .stage) in
     let r = k .stack .rows in
     let a = k .asks in
     let c = by-test (λ (v : ℕ). st .counted ≤ v → st .counted ≤ 1000000) (eqb (st .waiting) 0) (λ e h. omega arith) (λ e h. omega arith) (k .counted) in
-    record { phase-most = omega arith; answered-most = omega arith; counted-most = c; rows-most = omega arith; stage-most′ = s; order = k .stack .order }
+    record { answered-most = omega arith; counted-most = c; rows-most = omega arith; order = k .stack .order }
 
-whole-bounded : (st : Rebuilder) → Framed st → st .phase ≡ 2 → WholeIs st → Bounded st
-whole-bounded st f p k =
+whole-bounded : (st : Rebuilder) → Framed st → WholeIs st → Bounded st
+whole-bounded st f k =
     let l = f .limits .ceiling-most in
     let n = f .size in
     let q = div-le-self (st .n) (st .settings .m) in
-    let s = top-most st (k .stack .fits) in
     let r = k .stack .rows in
     let a = k .asks in
     let c = k .counted in
-    record { phase-most = omega arith; answered-most = omega arith; counted-most = omega arith; rows-most = omega arith; stage-most′ = s; order = k .stack .order }
+    record { answered-most = omega arith; counted-most = omega arith; rows-most = omega arith; order = k .stack .order }
 
 bounded : (st : Rebuilder) → Framed st → phaseSound st ≡ true → Bounded st
-bounded st f e = go (ℕ-discrete (st .phase) 0) (ℕ-discrete (st .phase) 1)
+bounded st f e = go (st .phase) e
   where
-    go : Dec (st .phase ≡ 0) → Dec (st .phase ≡ 1) → Bounded st
-    go (yes z) o = opening-bounded st z (opening-is st (rw (eq-eqb (st .phase) 0 z) at e))
-    go (no z) (yes o) = pieces-bounded st f o (pieces-is st (rw (ne-eqb (st .phase) 0 z, eq-eqb (st .phase) 1 o) at e))
-    go (no z) (no o) =
-        let g : eqb (st .phase) 2 && wholeSound st ≡ true = rw (ne-eqb (st .phase) 0 z, ne-eqb (st .phase) 1 o) at e in
-        whole-bounded st f (eqb-true (st .phase) 2 (and-left (eqb (st .phase) 2) (wholeSound st) g)) (whole-is st (and-right (eqb (st .phase) 2) (wholeSound st) g))
+    go : (p : Phase) → soundAt p st ≡ true → Bounded st
+    go AtOpening h = opening-bounded st (opening-is st h)
+    go AtPieces h = pieces-bounded st f (pieces-is st h)
+    go AtWhole h = whole-bounded st f (whole-is st h)
 
 pub sound-fits : (st : Rebuilder) → sound st ≡ true → length (st .pieces) ≡ 32 → RebuilderFits st
 sound-fits st e l =
@@ -113,25 +109,23 @@ sound-fits st e l =
     let m = f .limits in
     let m1 = m .m-most in let m2 = m .h-most in let m3 = m .k-most in let m4 = m .key-most in let m5 = m .ceiling-most in
     let f1 = f .copy in let f2 = f .size in let f3 = f .few in
-    let k1 = k .phase-most in let k2 = k .answered-most in let k3 = k .counted-most in let k4 = k .rows-most in let k5 = k .stage-most′ in
+    let k1 = k .answered-most in let k2 = k .counted-most in let k3 = k .rows-most in
     record {
       settings-fit = record { m-fits = omega arith; h-fits = omega arith; k-fits = omega arith; key-fits = omega arith; ceiling-fits = omega arith };
       ybits-fits = omega arith;
-      phase-fits = omega arith;
       n-fits = omega arith;
       answered-fits = omega arith;
       counted-fits = omega arith;
       rows-fits = omega arith;
-      stage-fits = omega arith;
       waiting-fits = omega arith;
       pieces-fit = pieces-fit st f l (k .order);
       pieces-number = l;
     }
 
 -- ---- the start and the call
--- what they leave is read as the state, whatever follows it
+-- what they leave, whatever follows it, is taken and read as the state
 pub start-carried : (S : Settings) (y : List ℕ) (bits stateRoom room : ℕ) (st : Rebuilder) (m l : List ℕ) → startOnBytes S y bits stateRoom room ≡ starts st m
-    → rebuilderOf (rebuilderBytes st ++ l) ≡ st
+    → (isRebuilder (rebuilderBytes st ++ l) ≡ true) × (rebuilderOf (rebuilderBytes st ++ l) ≡ st)
 unfolding startOnBytes
 start-carried S y bits stateRoom room st m l e =
     let t = unless-started (withinLimits S) BadSetting (unlessStarted (stringRule y bits) BadString (unlessStarted (leb rebuilderSize stateRoom) BufferTooShort (rebuilderStart S y bits room))) st m e in
@@ -139,13 +133,13 @@ start-carried S y bits stateRoom room st m l e =
     let v = unless-started (leb rebuilderSize stateRoom) BufferTooShort (rebuilderStart S y bits room) st m (u .1) in
     let k = started-is S y bits room st m (v .1) in
     let f = fresh-sound S bits (k .limits) (rule-is y bits (k .string) .few) in
-    rebuilder-read st l (rw (k .state) (sound-fits (freshRebuilder S bits) (f .0) (f .1)))
+    (rebuilder-bytes-front st l, rebuilder-read st l (rw (k .state) (sound-fits (freshRebuilder S bits) (f .0) (f .1))))
 
 pub call-carried : (s y : List ℕ) (bits : ℕ) (msg : List ℕ) (rooms : Rooms) (j : Step) (m l : List ℕ) → Bytes msg → rebuilderOnBytes s y bits msg rooms ≡ takes j m
-    → rebuilderOf (rebuilderBytes (j .state) ++ l) ≡ j .state
+    → (isRebuilder (rebuilderBytes (j .state) ++ l) ≡ true) × (rebuilderOf (rebuilderBytes (j .state) ++ l) ≡ j .state)
 unfolding rebuilderOnBytes
 call-carried s y bits msg rooms j m l b e =
-    let u = unless-taken (stringRule y bits) BadString (unlessTaken (leb rebuilderSize (length s)) OutOfTurn (rebuilderCall (rebuilderOf s) y bits msg rooms)) j m e in
-    let v = unless-taken (leb rebuilderSize (length s)) OutOfTurn (rebuilderCall (rebuilderOf s) y bits msg rooms) j m (u .1) in
+    let u = unless-taken (stringRule y bits) BadString (unlessTaken (isRebuilder s) OutOfTurn (rebuilderCall (rebuilderOf s) y bits msg rooms)) j m e in
+    let v = unless-taken (isRebuilder s) OutOfTurn (rebuilderCall (rebuilderOf s) y bits msg rooms) j m (u .1) in
     let f = call-sound (rebuilderOf s) y bits msg rooms j m (rebuilder-pieces s) b (v .1) in
-    rebuilder-read (j .state) l (sound-fits (j .state) (f .0) (f .1))
+    (rebuilder-bytes-front (j .state) l, rebuilder-read (j .state) l (sound-fits (j .state) (f .0) (f .1)))

@@ -5,7 +5,6 @@ use mathlib.Core.List.{List, _++_}
 use Prim.Native.Nat.{ℕ, _+_, _*_, _≤_, _<_}
 use native.Mathlib.Omega.{arith}
 use lib.ListN.{length, drop, length-append, length-take, length-drop}
-use lib.Dec.{leb}
 use borrow.Author.Tests.{le-leb, lt-leb}
 use Rattle.strings.specs.Bits.{range, atFront}
 use Rattle.strings.specs.laws.PackLaws.{Bytes}
@@ -32,8 +31,8 @@ use Rattle.ends.specs.laws.HolderLaws.{unless-heard, heard-call, Made, opens, c
 use Rattle.ends.specs.declared.answering.HolderAnswer.the-variants.{Replied, Refused}
 use Rattle.ends.specs.declared.answering.HolderOut.{HolderOut}
 use Rattle.ends.specs.HolderOutcome.{HolderSaid, answerSaid, saidHolder, leavesHolder}
-use Rattle.layout.specs.Layout.{holderSize, holderBytes, holderOf}
-use Rattle.layout.specs.laws.LayoutLaws.{holder-read, holder-fits, length-holder}
+use Rattle.layout.specs.Layout.{holderSize, holderBytes, holderOf, isHolder}
+use Rattle.layout.specs.laws.LayoutLaws.{holder-read, holder-fits, holder-bytes-front, length-holder}
 use Rattle.cabi.specs.Packing.{packed}
 use Rattle.cabi.specs.Calls.{holderMade, holderOnBytes, HolderLeft, holderLeft}
 
@@ -47,10 +46,12 @@ unfolding holderMade packed
 fresh-whole s t h e =
     rw (le-leb holderSize (length s) h, e) (ap (λ (n : ℕ). record { result = 0; state = holderBytes freshHolder ++ drop n s }) (sym (length-holder freshHolder)))
 
--- it is read from its bytes, whatever follows them
-pub fresh-carried : (l : List ℕ) → holderOf (holderBytes freshHolder ++ l) ≡ freshHolder
-fresh-carried l =
-    holder-read freshHolder l (record { opened-fits = omega arith; bits-fits = omega arith; h-fits = omega arith; key-fits = omega arith; answers-fits = omega arith })
+-- its bytes, whatever follows them, are taken and read as it
+pub fresh-carried : (l : List ℕ) → (isHolder (holderBytes freshHolder ++ l) ≡ true) × (holderOf (holderBytes freshHolder ++ l) ≡ freshHolder)
+fresh-carried l = (
+  holder-bytes-front freshHolder l,
+  holder-read freshHolder l (record { bits-fits = omega arith; h-fits = omega arith; key-fits = omega arith; answers-fits = omega arith }),
+)
 
 -- ---- a reply has at most 65,536 bytes
 part-most : (l : List Bool) (x p : ℕ) → length (part l x p) ≤ length l
@@ -84,14 +85,14 @@ module _ (s x : List ℕ) (bits : ℕ) (msg reply : List ℕ) where
   unfolding holderOnBytes packed
   holder-bad-string e = rw e refl
 
-  pub holder-no-state : stringRule x bits ≡ true → length s < holderSize
+  pub holder-no-state : stringRule x bits ≡ true → isHolder s ≡ false
       → record { result = 3; state = s; reply = reply } ≡ holderLeft s reply (holderOnBytes s x bits msg (length reply))
   unfolding holderOnBytes packed
-  holder-no-state e f = rw (e, lt-leb holderSize (length s) f) refl
+  holder-no-state e f = rw (e, f) refl
 
-  pub holder-called : stringRule x bits ≡ true → holderSize ≤ length s → holderOnBytes s x bits msg (length reply) ≡ holderCall (holderOf s) x bits msg (length reply)
+  pub holder-called : stringRule x bits ≡ true → isHolder s ≡ true → holderOnBytes s x bits msg (length reply) ≡ holderCall (holderOf s) x bits msg (length reply)
   unfolding holderOnBytes
-  holder-called e f = rw (e, le-leb holderSize (length s) f) refl
+  holder-called e f = rw (e, f) refl
 
 -- what the call on the state says, as bytes
 module _ (s reply reply′ : List ℕ) (st : Holder) (out : HolderOut) where
@@ -148,7 +149,7 @@ pub record HolderCalled : Type 0 where
   pub st : Holder
   pub out : HolderOut
   pub rule : stringRule x bits ≡ true
-  pub whole : holderSize ≤ length s
+  pub whole : isHolder s ≡ true
   pub read : st ≡ holderOf s
   pub said : saidHolder out reply′ ≡ leavesHolder st reply (holderCall st x bits msg (length reply))
 
@@ -175,27 +176,27 @@ module _ (k : HolderCalled) where
       → record { result = size * 16; state = s′; reply = k .reply′ } ≡ holderLeaves
   answer-replied {size} {s′} a h = holder-replied (k .s) (k .reply) (k .reply′) (k .st) (k .out) heard size s′ (k .said) a h ∙ called
 
--- ---- the bytes carry the state: what a taken call leaves is read as its next state, whatever follows it
+-- ---- the bytes carry the state: what a taken call leaves, whatever follows it, is taken and read as its next state
 pub holder-carried : (s x : List ℕ) (bits : ℕ) (msg : List ℕ) (room : ℕ) (next : Holder) (m l : List ℕ) → Bytes s → Bytes msg
-    → holderOnBytes s x bits msg room ≡ replies next m → holderOf (holderBytes next ++ l) ≡ next
+    → holderOnBytes s x bits msg room ≡ replies next m → (isHolder (holderBytes next ++ l) ≡ true) × (holderOf (holderBytes next ++ l) ≡ next)
 unfolding holderOnBytes
 holder-carried s x bits msg room next m l b c e =
-    let u = unless-heard (stringRule x bits) BadString (unlessHeard (leb holderSize (length s)) OutOfTurn (holderCall (holderOf s) x bits msg room)) next m e in
-    let v = unless-heard (leb holderSize (length s)) OutOfTurn (holderCall (holderOf s) x bits msg room) next m (u .1) in
+    let u = unless-heard (stringRule x bits) BadString (unlessHeard (isHolder s) OutOfTurn (holderCall (holderOf s) x bits msg room)) next m e in
+    let v = unless-heard (isHolder s) OutOfTurn (holderCall (holderOf s) x bits msg room) next m (u .1) in
     let o = holder-sound (holderOf s) x bits msg room next m (v .1) in
     let k = heard-call (holderOf s) x bits msg room next m (v .1) in
-    let p = o .opened in
     let q = o .bits in
     let r = o .h-most in
     let w = o .answers-most in
-    let i = fields-form msg c (k .kind) (k .at) bits (k .q) (k .fields) .range .key-most in
-    holder-read next l (record {
-      opened-fits = omega arith;
-      bits-fits = omega arith;
-      h-fits = omega arith;
-      answers-fits = omega arith;
-      key-fits = key-small (k .q) i (heard-made (holderOf s) x bits msg room next m k);
-    })
+    let i = fields-form msg c (k .kind) (k .at) bits (k .q) (k .fields) .range .key-most in (
+      holder-bytes-front next l,
+      holder-read next l (record {
+        bits-fits = omega arith;
+        h-fits = omega arith;
+        answers-fits = omega arith;
+        key-fits = key-small (k .q) i (heard-made (holderOf s) x bits msg room next m k);
+      }),
+    )
   where
     key-small : (q : Question) → keyOf q < 4294967296 → Made (holderOf s) bits q next → next .key < 4294967296
     key-small q i (opens z h key a w n) = let j = ap keyOf a in rw n (omega arith)

@@ -20,8 +20,8 @@ use Rattle.ends.specs.laws.HolderLaws.{unless-heard}
 use Rattle.ends.specs.RebuilderCall.{Started, startDeclines, starts, unlessStarted, rebuilderStart, Taken, refuses, takes, unlessTaken, Step, Rooms, rebuilderCall}
 use Rattle.ends.specs.laws.Asking.{unless-taken}
 use Rattle.ends.specs.laws.Delivery.{unless-started}
-use Rattle.layout.specs.Layout.{holderSize, holderBytes, holderOf, rebuilderSize, rebuilderBytes, rebuilderOf}
-use Rattle.layout.specs.laws.LayoutLaws.{length-holder, length-rebuilder}
+use Rattle.layout.specs.Layout.{holderSize, holderBytes, holderOf, isHolder, rebuilderSize, rebuilderBytes, rebuilderOf, isRebuilder}
+use Rattle.layout.specs.laws.LayoutLaws.{length-holder, length-rebuilder, holder-long, rebuilder-long}
 use Rattle.cabi.specs.Calls.{holderMade, holderOnBytes, holderLeft, startOnBytes, startLeft, rebuilderOnBytes, roomsIn, rebuilderLeft}
 
 -- the bytes t that are left of the bytes s of a slice, for a state of n bytes
@@ -51,9 +51,9 @@ made-kept s = go (leb holderSize (length s)) refl
 holder-room : (s x : List ℕ) (bits : ℕ) (msg : List ℕ) (room : ℕ) (next : Holder) (m : List ℕ) → holderOnBytes s x bits msg room ≡ replies next m → holderSize ≤ length s
 unfolding holderOnBytes
 holder-room s x bits msg room next m e =
-    let u = unless-heard (stringRule x bits) BadString (unlessHeard (leb holderSize (length s)) OutOfTurn (holderCall (holderOf s) x bits msg room)) next m e in
-    let v = unless-heard (leb holderSize (length s)) OutOfTurn (holderCall (holderOf s) x bits msg room) next m (u .1) in
-    leb-true holderSize (length s) (v .0)
+    let u = unless-heard (stringRule x bits) BadString (unlessHeard (isHolder s) OutOfTurn (holderCall (holderOf s) x bits msg room)) next m e in
+    let v = unless-heard (isHolder s) OutOfTurn (holderCall (holderOf s) x bits msg room) next m (u .1) in
+    holder-long s (v .0)
 
 pub answer-kept : (s x : List ℕ) (bits : ℕ) (msg reply : List ℕ) → Kept holderSize s (holderLeft s reply (holderOnBytes s x bits msg (length reply)) .state)
 answer-kept s x bits msg reply = go (holderOnBytes s x bits msg (length reply)) refl
@@ -82,9 +82,9 @@ start-kept S y bits s question = go (startOnBytes S y bits (length s) (length qu
 call-room : (s y : List ℕ) (bits : ℕ) (msg : List ℕ) (rooms : Rooms) (j : Step) (m : List ℕ) → rebuilderOnBytes s y bits msg rooms ≡ takes j m → rebuilderSize ≤ length s
 unfolding rebuilderOnBytes
 call-room s y bits msg rooms j m e =
-    let u = unless-taken (stringRule y bits) BadString (unlessTaken (leb rebuilderSize (length s)) OutOfTurn (rebuilderCall (rebuilderOf s) y bits msg rooms)) j m e in
-    let v = unless-taken (leb rebuilderSize (length s)) OutOfTurn (rebuilderCall (rebuilderOf s) y bits msg rooms) j m (u .1) in
-    leb-true rebuilderSize (length s) (v .0)
+    let u = unless-taken (stringRule y bits) BadString (unlessTaken (isRebuilder s) OutOfTurn (rebuilderCall (rebuilderOf s) y bits msg rooms)) j m e in
+    let v = unless-taken (isRebuilder s) OutOfTurn (rebuilderCall (rebuilderOf s) y bits msg rooms) j m (u .1) in
+    rebuilder-long s (v .0)
 
 pub call-kept : (s y : List ℕ) (bits : ℕ) (msg string sheet question : List ℕ)
     → Kept rebuilderSize s (rebuilderLeft s string sheet question (rebuilderOnBytes s y bits msg (roomsIn string sheet question)) .state)

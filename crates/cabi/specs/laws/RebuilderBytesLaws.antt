@@ -33,7 +33,7 @@ use Rattle.ends.specs.declared.rebuilding.RebuilderAnswer.the-variants.{Refused
 use Rattle.ends.specs.declared.rebuilding.RebuilderOut.{RebuilderOut}
 use Rattle.ends.specs.RebuilderOutcome.{startSaid, StartSaid, saidStart, leavesStart, callSaid, RebuilderSaid, saidRebuilder, nextSize, leavesRebuilder}
 use Rattle.ends.specs.code.SheetCallLaws.{change-fits}
-use Rattle.layout.specs.Layout.{rebuilderSize, rebuilderBytes, rebuilderOf}
+use Rattle.layout.specs.Layout.{rebuilderSize, rebuilderBytes, rebuilderOf, isRebuilder}
 use Rattle.layout.specs.laws.LayoutLaws.{length-rebuilder}
 use Rattle.layout.specs.Sheet.{rowSize, sheetBytesAfter}
 use Rattle.cabi.specs.Packing.{packed}
@@ -78,15 +78,15 @@ module _ (s y : List ℕ) (bits : ℕ) (msg string sheet question : List ℕ) wh
   unfolding rebuilderOnBytes packed
   call-bad-string e = rw e refl
 
-  pub call-no-state : stringRule y bits ≡ true → length s < rebuilderSize
+  pub call-no-state : stringRule y bits ≡ true → isRebuilder s ≡ false
       → record { result = 3; state = s; string = string; sheet = sheet; question = question } ≡ callLeaves s y bits msg string sheet question
   unfolding rebuilderOnBytes packed
-  call-no-state e f = rw (e, lt-leb rebuilderSize (length s) f) refl
+  call-no-state e f = rw (e, f) refl
 
-  rebuilder-called : stringRule y bits ≡ true → rebuilderSize ≤ length s
+  rebuilder-called : stringRule y bits ≡ true → isRebuilder s ≡ true
       → rebuilderOnBytes s y bits msg (roomsIn string sheet question) ≡ rebuilderCall (rebuilderOf s) y bits msg (roomsIn string sheet question)
   unfolding rebuilderOnBytes
-  rebuilder-called e f = rw (e, le-leb rebuilderSize (length s) f) refl
+  rebuilder-called e f = rw (e, f) refl
 
 -- the length of the next question
 abbrev pub askedSize : Option ℕ → ℕ
@@ -162,7 +162,7 @@ pub record RebuilderCalled : Type 0 where
   pub st : Rebuilder
   pub out : RebuilderOut
   pub rule : stringRule y bits ≡ true
-  pub whole : rebuilderSize ≤ length s
+  pub whole : isRebuilder s ≡ true
   pub read : st ≡ rebuilderOf s
   pub said : saidRebuilder out string′ question′ ≡ leavesRebuilder st string question (rebuilderCall st y bits msg (roomsIn string sheet question))
 

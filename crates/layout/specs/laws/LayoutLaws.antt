@@ -1,5 +1,6 @@
--- Lengths of the layouts; reading a state's bytes gives the state.
+-- Lengths of the layouts; a state's bytes pass the test of states, and reading them gives the state.
 use mathlib.Core.Path.{_≡_, refl, sym, ap, ap₂, _∙_}
+use mathlib.Core.Bool.{Bool, true, false}
 use mathlib.Core.List.{List, [], _∷_, _++_, append-assoc, append-nil}
 use Prim.Native.Nat.{ℕ, zero, suc, _+_, _-_, _*_, _≤_, _<_}
 use native.Mathlib.Nat.{add-zero}
@@ -7,16 +8,22 @@ use native.Mathlib.Omega.{arith}
 use native.Mathlib.Numerals.{add-one}
 use lib.ListN.{length, getD, set, take, drop, length-append, length-replicate, replicate}
 use lib.Seq.{sets, drop-cons, take-all}
+use lib.Dec.{leb}
+use borrow.Author.Tests.{le-leb, lt-leb, leb-true}
 use Rattle.strings.specs.declared.settings.Settings.{Settings}
 use Rattle.ends.specs.declared.Holder.{Holder}
 use Rattle.ends.specs.declared.Piece.{Piece}
+use Rattle.ends.specs.declared.Phase.{Phase}
 use Rattle.ends.specs.declared.Rebuilder.{Rebuilder}
+use Rattle.ends.specs.declared.Stage.{Stage}
 use Rattle.ends.specs.States.{noPiece}
 use Rattle.layout.specs.Bytes32.{bytesOf, wordAt}
-use Rattle.layout.specs.Layout.{allBytes, holderSize, holderBytes, holderOf, pieceBytes, pieceAt, piecesBytes, piecesAt, rebuilderSize, fieldBytes, rebuilderBytes, fieldsOf, rebuilderOf}
+use Rattle.layout.specs.Layout.{allBytes, openedNumber, openedOf, phaseNumber, phaseOf, stageNumber, stageOf, holderSize, holderBytes, holderOf, isHolder, pieceBytes, pieceAt, piecesBytes, piecesAt, rebuilderSize, fieldBytes, rebuilderBytes, fieldsOf, rebuilderOf, isRebuilder}
 use Rattle.strings.specs.laws.StoreLaws.{sets-append, sets-front}
 use Rattle.strings.specs.laws.PackLaws.{Bytes}
+use Rattle.strings.specs.laws.Tests.{and-left, and-true}
 use Rattle.layout.specs.laws.Bytes32Laws.{digits, number-behind, number-below}
+use Rattle.layout.specs.laws.CaseLaws.{opened-most, opened-back, phase-most, phase-back, stage-most, stage-back}
 
 -- ---- lengths
 pub length-holder : (st : Holder) → length (holderBytes st) ≡ holderSize
@@ -58,9 +65,8 @@ pub rebuilder-pieces : (s : List ℕ) → length (rebuilderOf s .pieces) ≡ 32
 unfolding rebuilderOf fieldsOf
 rebuilder-pieces s = length-piecesAt s 52 32
 
--- ---- every number of a state is below 2^32, as of any state that code holds
+-- ---- every number of a state is below 2^32, as of any state that code holds; those of its cases always are
 pub record HolderFits (st : Holder) : Type 0 where
-  pub opened-fits : st .opened < 4294967296
   pub bits-fits : st .bits < 4294967296
   pub h-fits : st .h < 4294967296
   pub key-fits : st .key < 4294967296
@@ -82,25 +88,25 @@ pub record SettingsFit (S : Settings) : Type 0 where
 pub record RebuilderFits (st : Rebuilder) : Type 0 where
   pub settings-fit : SettingsFit (st .settings)
   pub ybits-fits : st .ybits < 4294967296
-  pub phase-fits : st .phase < 4294967296
   pub n-fits : st .n < 4294967296
   pub answered-fits : st .answered < 4294967296
   pub counted-fits : st .counted < 4294967296
   pub rows-fits : st .rows < 4294967296
-  pub stage-fits : st .stage < 4294967296
   pub waiting-fits : st .waiting < 4294967296
   pub pieces-fit : (i : ℕ) → PieceFits (getD (st .pieces) i noPiece)
   pub pieces-number : length (st .pieces) ≡ 32
 
 -- ---- the holder: reading its bytes, whatever follows them
-pub holder-same : {a b c d e a′ b′ c′ d′ e′ : ℕ} → a ≡ a′ → b ≡ b′ → c ≡ c′ → d ≡ d′ → e ≡ e′
+pub holder-same : {a a′ : Bool} {b c d e b′ c′ d′ e′ : ℕ} → a ≡ a′ → b ≡ b′ → c ≡ c′ → d ≡ d′ → e ≡ e′
     → _≡_ {A = Holder} (record { opened = a; bits = b; h = c; key = d; answers = e }) (record { opened = a′; bits = b′; h = c′; key = d′; answers = e′ })
 holder-same p q r s t = rw (p, q, r, s, t) refl
 
 pub holder-read : (st : Holder) (l : List ℕ) → HolderFits st → holderOf (holderBytes st ++ l) ≡ st
 unfolding holderOf holderBytes allBytes bytesOf wordAt
 holder-read st l f =
-    holder-same (digits (st .opened) (f .opened-fits)) (digits (st .bits) (f .bits-fits)) (digits (st .h) (f .h-fits)) (digits (st .key) (f .key-fits))
+    holder-same
+    (ap openedOf (digits (openedNumber (st .opened)) (let k = opened-most (st .opened) in omega arith)) ∙ opened-back (st .opened))
+    (digits (st .bits) (f .bits-fits)) (digits (st .h) (f .h-fits)) (digits (st .key) (f .key-fits))
     (digits (st .answers) (f .answers-fits))
 
 pub holder-back : (st : Holder) → HolderFits st → holderOf (holderBytes st) ≡ st
@@ -110,7 +116,6 @@ holder-back st f = ap holderOf (sym (append-nil (holderBytes st))) ∙ holder-re
 pub holder-fits : (s : List ℕ) → Bytes s → HolderFits (holderOf s)
 unfolding holderOf
 holder-fits s b = record {
-  opened-fits = number-below s 0 b;
   bits-fits = number-below s 4 b;
   h-fits = number-below s 8 b;
   key-fits = number-below s 12 b;
@@ -158,7 +163,7 @@ pub settings-same : {a b c d e a′ b′ c′ d′ e′ : ℕ} → a ≡ a′ �
     → _≡_ {A = Settings} (record { m = a; h = b; k = c; key = d; ceiling = e }) (record { m = a′; h = b′; k = c′; key = d′; ceiling = e′ })
 settings-same p q r s t = rw (p, q, r, s, t) refl
 
-pub state-same : {S S′ : Settings} {a b c d e f g h a′ b′ c′ d′ e′ f′ g′ h′ : ℕ} {l l′ : List Piece}
+pub state-same : {S S′ : Settings} {a c d e f h a′ c′ d′ e′ f′ h′ : ℕ} {b b′ : Phase} {g g′ : Stage} {l l′ : List Piece}
     → S ≡ S′ → a ≡ a′ → b ≡ b′ → c ≡ c′ → d ≡ d′ → e ≡ e′ → f ≡ f′ → g ≡ g′ → h ≡ h′ → l ≡ l′
     → _≡_ {A = Rebuilder}
     (record { settings = S; ybits = a; phase = b; n = c; answered = d; counted = e; rows = f; stage = g; waiting = h; pieces = l })
@@ -181,19 +186,84 @@ rebuilder-read st l f =
     (settings-same (digits (st .settings .m) (g .m-fits)) (digits (st .settings .h) (g .h-fits)) (digits (st .settings .k) (g .k-fits))
     (digits (st .settings .key) (g .key-fits)) (digits (st .settings .ceiling) (g .ceiling-fits)))
     (digits (st .ybits) (f .ybits-fits))
-    (digits (st .phase) (f .phase-fits))
+    (ap phaseOf (digits (phaseNumber (st .phase)) (let k = phase-most (st .phase) in omega arith)) ∙ phase-back (st .phase))
     (digits (st .n) (f .n-fits))
     (digits (st .answered) (f .answered-fits))
     (digits (st .counted) (f .counted-fits))
     (digits (st .rows) (f .rows-fits))
-    (digits (st .stage) (f .stage-fits))
+    (ap stageOf (digits (stageNumber (st .stage)) (let k = stage-most (st .stage) in omega arith)) ∙ stage-back (st .stage))
     (digits (st .waiting) (f .waiting-fits))
     (pieces-back st l f)
 
 pub rebuilder-back : (st : Rebuilder) → RebuilderFits st → rebuilderOf (rebuilderBytes st) ≡ st
 rebuilder-back st f = ap rebuilderOf (sym (append-nil (rebuilderBytes st))) ∙ rebuilder-read st [] f
 
+-- ---- the test of a state's bytes: those of a state pass it, whatever follows them
+holder-word : (st : Holder) (l : List ℕ) → wordAt (holderBytes st ++ l) 0 ≡ openedNumber (st .opened)
+unfolding holderBytes allBytes bytesOf wordAt
+holder-word st l = digits (openedNumber (st .opened)) (let k = opened-most (st .opened) in omega arith)
+
+pub holder-bytes-front : (st : Holder) (l : List ℕ) → isHolder (holderBytes st ++ l) ≡ true
+unfolding isHolder
+holder-bytes-front st l =
+    and-true _ _
+    (le-leb holderSize (length (holderBytes st ++ l)) (let a = length-append (holderBytes st) l in let b = length-holder st in omega arith))
+    (le-leb (wordAt (holderBytes st ++ l) 0) 1 (let a = holder-word st l in let b = opened-most (st .opened) in omega arith))
+
+pub holder-bytes-are : (st : Holder) → isHolder (holderBytes st) ≡ true
+holder-bytes-are st = ap isHolder (sym (append-nil (holderBytes st))) ∙ holder-bytes-front st []
+
+phase-word : (st : Rebuilder) (l : List ℕ) → wordAt (rebuilderBytes st ++ l) 24 ≡ phaseNumber (st .phase)
+unfolding rebuilderBytes fieldBytes allBytes bytesOf wordAt
+phase-word st l = digits (phaseNumber (st .phase)) (let k = phase-most (st .phase) in omega arith)
+
+stage-word : (st : Rebuilder) (l : List ℕ) → wordAt (rebuilderBytes st ++ l) 44 ≡ stageNumber (st .stage)
+unfolding rebuilderBytes fieldBytes allBytes bytesOf wordAt
+stage-word st l = digits (stageNumber (st .stage)) (let k = stage-most (st .stage) in omega arith)
+
+pub rebuilder-bytes-front : (st : Rebuilder) (l : List ℕ) → isRebuilder (rebuilderBytes st ++ l) ≡ true
+unfolding isRebuilder
+rebuilder-bytes-front st l =
+    and-true _ _
+    (le-leb rebuilderSize (length (rebuilderBytes st ++ l)) (let a = length-append (rebuilderBytes st) l in let b = length-rebuilder st in omega arith))
+    (and-true _ _
+    (le-leb (wordAt (rebuilderBytes st ++ l) 24) 2 (let a = phase-word st l in let b = phase-most (st .phase) in omega arith))
+    (le-leb (wordAt (rebuilderBytes st ++ l) 44) 6 (let a = stage-word st l in let b = stage-most (st .stage) in omega arith)))
+
+pub rebuilder-bytes-are : (st : Rebuilder) → isRebuilder (rebuilderBytes st) ≡ true
+rebuilder-bytes-are st = ap isRebuilder (sym (append-nil (rebuilderBytes st))) ∙ rebuilder-bytes-front st []
+
+-- what passes is long enough to be read
+pub holder-long : (s : List ℕ) → isHolder s ≡ true → holderSize ≤ length s
+unfolding isHolder
+holder-long s e = leb-true holderSize (length s) (and-left (leb holderSize (length s)) _ e)
+
+pub rebuilder-long : (s : List ℕ) → isRebuilder s ≡ true → rebuilderSize ≤ length s
+unfolding isRebuilder
+rebuilder-long s e = leb-true rebuilderSize (length s) (and-left (leb rebuilderSize (length s)) _ e)
+
 -- ---- for the code
+-- the tests, as the code makes them
+pub holder-short : (s : List ℕ) → length s < holderSize → false ≡ isHolder s
+unfolding isHolder
+holder-short s h = rw (lt-leb holderSize (length s) h) refl
+
+pub holder-tested : (s : List ℕ) (v : ℕ) → holderSize ≤ length s → v ≡ wordAt s 0 → leb v 1 ≡ isHolder s
+unfolding isHolder
+holder-tested s v h e = rw (le-leb holderSize (length s) h, e) refl
+
+pub rebuilder-short : (s : List ℕ) → length s < rebuilderSize → false ≡ isRebuilder s
+unfolding isRebuilder
+rebuilder-short s h = rw (lt-leb rebuilderSize (length s) h) refl
+
+pub no-phase : (s : List ℕ) (v : ℕ) → rebuilderSize ≤ length s → v ≡ wordAt s 24 → 2 < v → false ≡ isRebuilder s
+unfolding isRebuilder
+no-phase s v h e k = rw (le-leb rebuilderSize (length s) h, lt-leb (wordAt s 24) 2 (omega arith)) refl
+
+pub rebuilder-tested : (s : List ℕ) (v w : ℕ) → rebuilderSize ≤ length s → v ≡ wordAt s 24 → v ≤ 2 → w ≡ wordAt s 44 → leb w 6 ≡ isRebuilder s
+unfolding isRebuilder
+rebuilder-tested s v w h e k f = rw (le-leb rebuilderSize (length s) h, le-leb (wordAt s 24) 2 (omega arith), f) refl
+
 -- a list stored right behind another
 pub store-next : (s t u : List ℕ) (at i : ℕ) (a b : List ℕ) → t ≡ sets s at a → u ≡ sets t i b → i ≡ at + length a → u ≡ sets s at (a ++ b)
 store-next s t u at i a b e f g = f ∙ rw (e, g) (sym (sets-append s a b at))
@@ -278,26 +348,31 @@ pub rebuilder-front : (s : List ℕ) (st : Rebuilder) → rebuilderSize ≤ leng
 rebuilder-front s st h =
     sets-front s (rebuilderBytes st) (let e = length-rebuilder st in omega arith) ∙ ap (λ (n : ℕ). rebuilderBytes st ++ drop n s) (length-rebuilder st)
 
-pub holder-stored : (s t u : List ℕ) (st : Holder) → holderSize ≤ length s → t ≡ sets s 0 (allBytes (st .opened ∷ st .bits ∷ st .h ∷ st .key ∷ []))
+pub holder-stored : (s t u : List ℕ) (st : Holder) (o : ℕ) → holderSize ≤ length s → o ≡ openedNumber (st .opened) → t ≡ sets s 0 (allBytes (o ∷ st .bits ∷ st .h ∷ st .key ∷ []))
     → u ≡ sets t 16 (bytesOf (st .answers)) → u ≡ holderBytes st ++ drop holderSize s
 unfolding holderBytes allBytes bytesOf
-holder-stored s t u st h e f =
-    store-next s t u 0 16 (allBytes (st .opened ∷ st .bits ∷ st .h ∷ st .key ∷ [])) (bytesOf (st .answers)) e f refl ∙ holder-front s st h
+holder-stored s t u st o h k e f =
+    store-next s t u 0 16 (allBytes (o ∷ st .bits ∷ st .h ∷ st .key ∷ [])) (bytesOf (st .answers)) e f refl
+    ∙ ap (λ (v : ℕ). sets s 0 (allBytes (v ∷ st .bits ∷ st .h ∷ st .key ∷ st .answers ∷ []))) k
+    ∙ holder-front s st h
 
-pub fields-stored : (s t u v w : List ℕ) (st : Rebuilder)
+pub fields-stored : (s t u v w : List ℕ) (st : Rebuilder) (p q : ℕ) → p ≡ phaseNumber (st .phase) → q ≡ stageNumber (st .stage)
     → t ≡ sets s 0 (allBytes (st .settings .m ∷ st .settings .h ∷ st .settings .k ∷ st .settings .key ∷ []))
-    → u ≡ sets t 16 (allBytes (st .settings .ceiling ∷ st .ybits ∷ st .phase ∷ st .n ∷ []))
-    → v ≡ sets u 32 (allBytes (st .answered ∷ st .counted ∷ st .rows ∷ st .stage ∷ []))
+    → u ≡ sets t 16 (allBytes (st .settings .ceiling ∷ st .ybits ∷ p ∷ st .n ∷ []))
+    → v ≡ sets u 32 (allBytes (st .answered ∷ st .counted ∷ st .rows ∷ q ∷ []))
     → w ≡ sets v 48 (bytesOf (st .waiting))
     → w ≡ sets s 0 (fieldBytes st)
 unfolding fieldBytes allBytes bytesOf
-fields-stored s t u v w st e f g h =
+fields-stored s t u v w st p q i j e f g h =
     let a : List ℕ = allBytes (st .settings .m ∷ st .settings .h ∷ st .settings .k ∷ st .settings .key ∷ []) in
-    let b : List ℕ = allBytes (st .settings .ceiling ∷ st .ybits ∷ st .phase ∷ st .n ∷ []) in
-    let c : List ℕ = allBytes (st .answered ∷ st .counted ∷ st .rows ∷ st .stage ∷ []) in
+    let b : List ℕ = allBytes (st .settings .ceiling ∷ st .ybits ∷ p ∷ st .n ∷ []) in
+    let c : List ℕ = allBytes (st .answered ∷ st .counted ∷ st .rows ∷ q ∷ []) in
     store-next s v w 0 48 ((a ++ b) ++ c) (bytesOf (st .waiting))
     (store-next s u v 0 32 (a ++ b) c (store-next s t u 0 16 a b e f refl) g refl)
     h refl
+    ∙ ap₂ (λ (x y : ℕ). sets s 0 (allBytes (
+    st .settings .m ∷ st .settings .h ∷ st .settings .k ∷ st .settings .key ∷ st .settings .ceiling ∷
+    st .ybits ∷ x ∷ st .n ∷ st .answered ∷ st .counted ∷ st .rows ∷ y ∷ st .waiting ∷ []))) i j
 
 pub rebuilder-stored : (s t u : List ℕ) (st : Rebuilder) → rebuilderSize ≤ length s → t ≡ sets s 0 (fieldBytes st) → u ≡ sets t 52 (piecesBytes (st .pieces) 0 32)
     → u ≡ rebuilderBytes st ++ drop rebuilderSize s

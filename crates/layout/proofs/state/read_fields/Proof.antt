@@ -1,5 +1,5 @@
-use mathlib.Core.Path.{refl}
-use Rattle.layout.specs.Layout.{fieldsOf}
+use mathlib.Core.Path.{refl, ap, _∙_}
+use Rattle.layout.specs.Layout.{phaseOf, stageOf, fieldsOf}
 use Rattle.layout.specs.laws.LayoutLaws.{state-same}
 use borrow.Author.Needs.{needs}
 use Rattle.layout.proofs.state.read_fields.Statement.{statement}
@@ -11,8 +11,14 @@ read-settings-requires c κs = search needs
 read-u32-requires : tie.Need-read-u32-requires
 read-u32-requires c κs = search needs
 
+phase-of-requires : tie.Need-phase-of-requires
+phase-of-requires c κs = search needs
+
 read-u32-requires-2 : tie.Need-read-u32-requires-2
 read-u32-requires-2 c κs = search needs
+
+stage-of-requires : tie.Need-stage-of-requires
+stage-of-requires c κs = search needs
 
 read-u32-requires-3 : tie.Need-read-u32-requires-3
 read-u32-requires-3 c κs = search needs
@@ -34,8 +40,7 @@ read-u32-requires-8 c κs = search needs
 
 returns : tie.Need-returns
 unfolding fieldsOf
-returns c =
-    state-same (c .before .before .before .before .before .before .before .before .read-settings .ensures) (c .before .before .before .before .before .before .before .read-u32 .ensures) (c .before .before .before .before .before .before .read-u322 .ensures) (c .before .before .before .before .before .read-u323 .ensures) (c .before .before .before .before .read-u324 .ensures) (c .before .before .before .read-u325 .ensures) (c .before .before .read-u326 .ensures) (c .before .read-u327 .ensures) (c .read-u328 .ensures) refl
+returns c = state-same (c .before .before .before .before .before .before .before .before .before .before .read-settings .ensures) (c .before .before .before .before .before .read-u323 .ensures) (c .before .before .before .before .before .before .before .before .phase-of .ensures ∙ ap phaseOf (c .before .before .before .before .before .before .before .before .before .read-u32 .ensures)) (c .before .before .before .before .read-u324 .ensures) (c .before .before .before .read-u325 .ensures) (c .before .before .read-u326 .ensures) (c .before .read-u327 .ensures) (c .before .before .before .before .before .before .stage-of .ensures ∙ ap stageOf (c .before .before .before .before .before .before .before .read-u322 .ensures)) (c .read-u328 .ensures) refl
 
 pub read-fields-spec : {M : Type 1} → statement M
 read-fields-spec =
@@ -43,7 +48,9 @@ read-fields-spec =
     (tie.spec
     read-settings-requires
     read-u32-requires
+    phase-of-requires
     read-u32-requires-2
+    stage-of-requires
     read-u32-requires-3
     read-u32-requires-4
     read-u32-requires-5
