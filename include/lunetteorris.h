@@ -14,7 +14,8 @@
  * States. The buffer has at least LO_HOLDER_BYTES or LO_REBUILDER_BYTES bytes. Each function reads
  * and writes the first LO_HOLDER_BYTES or LO_REBUILDER_BYTES of them and leaves later bytes as they
  * were. A shorter buffer gets 9 from lo_holder_fresh and lo_rebuilder_start, which make a state,
- * and 3 from the two calls.
+ * and 3 from the two calls, as do bytes with a number for opened, phase or stage that is none of
+ * those listed below.
  *
  * Threads. The library has no global state. Calls on different states may run at the same time;
  * slices that are only read (X, Y, messages) may be lent to several of them.
@@ -41,7 +42,7 @@ extern "C" {
 #define LO_BAD_STRING 2       /* a string breaks the string rule, or has another bit count than at
                                  opening */
 #define LO_OUT_OF_TURN 3      /* finished; answers spent; an opening wanted, or not wanted; or the
-                                 state is unsound or its buffer too short for a state */
+                                 state is unsound, its bytes are no state's or too few for one */
 #define LO_TRUNCATED 4        /* the message ends inside its kind, a field or its bits */
 #define LO_BAD_NUMBER 5       /* a number with a zero last byte after another byte, or a fifth byte
                                  above 0x0f */
@@ -90,8 +91,9 @@ extern "C" {
 #define LO_REBUILDER_ANSWERED 32 /* questions answered, the opening among them */
 #define LO_REBUILDER_COUNTED 36  /* bytes of the answers, the opening's not counted */
 #define LO_REBUILDER_ROWS 40     /* rows in use */
-#define LO_REBUILDER_STAGE 44    /* leftmost piece: 0 hash or syndrome asked, 1 to 3 an anchor,
-                                    4 all its bits; in phase 2 as the last answer left it */
+#define LO_REBUILDER_STAGE 44    /* leftmost piece: 0 hash asked, 1 syndrome to put a bit in, 2 to
+                                    take one out, 3 to 5 the first, second, third anchor, 6 all its
+                                    bits; 0 if none waits; in phase 2 as the last answer left it */
 #define LO_REBUILDER_WAITING 48  /* waiting pieces */
 #define LO_REBUILDER_PIECES 52   /* 32 pieces of x, p, y, q, the leftmost waiting one last; unused
                                     ones zero */

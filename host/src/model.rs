@@ -368,12 +368,17 @@ fn write_words(words: &[u32], bytes: &mut [u8]) {
     }
 }
 
+/// The one among these that has this number, from 0 on in their order.
+fn numbered<T: Copy>(all: &[T], number: u32) -> Option<T> {
+    all.get(number as usize).copied()
+}
+
 // The holder
 
 /// A holder's state.
 #[derive(Clone, Copy, Debug, PartialEq, Eq)]
 struct HolderState {
-    opened: u32,
+    opened: bool,
     bits: usize,
     h: u32,
     key: u32,
@@ -382,17 +387,18 @@ struct HolderState {
 
 impl HolderState {
     const FRESH: HolderState = HolderState {
-        opened: 0,
+        opened: false,
         bits: 0,
         h: 0,
         key: 0,
         answers: 0,
     };
 
+    /// None for too few bytes, and for bytes that no state has.
     fn read(bytes: &[u8]) -> Option<HolderState> {
         let [opened, bits, h, key, answers] = read_words(bytes)?;
         Some(HolderState {
-            opened,
+            opened: numbered(&[false, true], opened)?,
             bits: bits as usize,
             h,
             key,
@@ -402,7 +408,7 @@ impl HolderState {
 
     fn write(&self, bytes: &mut [u8]) {
         let words = [
-            self.opened,
+            self.opened as u32,
             self.bits as u32,
             self.h,
             self.key,
@@ -413,7 +419,7 @@ impl HolderState {
 
     fn sound(&self) -> bool {
         *self == HolderState::FRESH
-            || self.opened == 1
+            || self.opened
                 && self.bits <= MAX_BITS
                 && (8..=32).contains(&self.h)
                 && self.key >= 1
@@ -437,7 +443,7 @@ fn holder_answer(
         return Err(Refusal::BadString);
     }
     let mut state = HolderState::read(state_bytes).ok_or(Refusal::OutOfTurn)?;
-    if state.opened == 1 && state.bits != bits {
+    if state.opened && state.bits != bits {
         return Err(Refusal::BadString);
     }
     if !state.sound() || state.answers == MAX_ANSWERS {
@@ -448,7 +454,7 @@ fn holder_answer(
     if kind > BITS {
         return Err(Refusal::BadKind);
     }
-    if (kind == OPEN) == (state.opened == 1) {
+    if (kind == OPEN) == state.opened {
         return Err(Refusal::OutOfTurn);
     }
     let length = if kind == OPEN {
@@ -458,7 +464,7 @@ fn holder_answer(
             return Err(Refusal::OutOfRange);
         }
         state = HolderState {
-            opened: 1,
+            opened: true,
             bits,
             h,
             key,
@@ -533,12 +539,54 @@ impl Limits {
     }
 }
 
-const OPENING: usize = 0;
-const PIECES: usize = 1;
-const WHOLE: usize = 2;
+/// What is awaited: the opening's answer; one for the leftmost piece, or nothing if none waits; the
+/// whole string. In the order of their numbers.
+#[derive(Clone, Copy, Debug, PartialEq, Eq)]
+enum Phase {
+    Opening,
+    Pieces,
+    Whole,
+}
 
-/// Stages of the leftmost piece: 0 hash or syndrome asked, 1 to 3 an anchor, 4 all its bits.
-const ALL_BITS: usize = 4;
+impl Phase {
+    const ALL: [Phase; 3] = [Phase::Opening, Phase::Pieces, Phase::Whole];
+}
+
+/// What is asked of the leftmost piece: its hash; its syndrome, to put a bit in or to take one out;
+/// an anchor; all its bits. In the order of their numbers.
+#[derive(Clone, Copy, Debug, PartialEq, Eq)]
+enum Stage {
+    Hash,
+    PutIn,
+    TakeOut,
+    Anchor1,
+    Anchor2,
+    Anchor3,
+    AllBits,
+}
+
+impl Stage {
+    const ALL: [Stage; 7] = [
+        Stage::Hash,
+        Stage::PutIn,
+        Stage::TakeOut,
+        Stage::Anchor1,
+        Stage::Anchor2,
+        Stage::Anchor3,
+        Stage::AllBits,
+    ];
+
+    /// How many questions the piece has had at most.
+    fn questions_had(self) -> usize {
+        match self {
+            Stage::Hash | Stage::PutIn | Stage::TakeOut => 0,
+            Stage::Anchor1 => 1,
+            Stage::Anchor2 => 2,
+            Stage::Anchor3 => 3,
+            Stage::AllBits => 4,
+        }
+    }
+}
 
 const BY_HASH: u32 = 1;
 const BY_PUT_IN: u32 = 2;
@@ -551,12 +599,12 @@ const BY_BITS: u32 = 5;
 struct RebuilderState {
     settings: Limits,
     y_bits: usize,
-    phase: usize,
+    phase: Phase,
     n: usize,
     answered: usize,
     counted: usize,
     rows: usize,
-    stage: usize,
+    stage: Stage,
     waiting: usize,
     pieces: [Piece; MAX_WAITING],
 }
@@ -570,6 +618,7 @@ enum Answer<'a> {
 }
 
 impl RebuilderState {
+    /// None for too few bytes, and for bytes that no state has.
     fn read(bytes: &[u8]) -> Option<RebuilderState> {
         let words: [u32; REBUILDER_BYTES / 4] = read_words(bytes)?;
         let number = |i: usize| words[i] as usize;
@@ -592,12 +641,12 @@ impl RebuilderState {
                 ceiling: number(4),
             },
             y_bits: number(5),
-            phase: number(6),
+            phase: numbered(&Phase::ALL, words[6])?,
             n: number(7),
             answered: number(8),
             counted: number(9),
             rows: number(10),
-            stage: number(11),
+            stage: numbered(&Stage::ALL, words[11])?,
             waiting: number(12),
             pieces,
         })
@@ -639,7 +688,7 @@ impl RebuilderState {
     }
 
     fn finished(&self) -> bool {
-        self.phase == PIECES && self.waiting == 0
+        self.phase == Phase::Pieces && self.waiting == 0
     }
 
     // Soundness, as docs/STATE.md defines it
@@ -660,15 +709,15 @@ impl RebuilderState {
         let whole = 1 + self.n.div_ceil(8);
         let most_bytes = whole.max(9);
         match self.phase {
-            OPENING => {
+            Phase::Opening => {
                 self.n == 0
                     && self.answered == 0
                     && self.counted == 0
                     && self.rows == 0
-                    && self.stage == 0
+                    && self.stage == Stage::Hash
                     && self.waiting == 0
             }
-            PIECES => {
+            Phase::Pieces => {
                 let waiting = &self.pieces[..self.waiting];
                 let to_ask: usize = waiting.iter().map(|w| 9 * (w.p / settings.m) + 5).sum();
                 let most_counted = match self.waiting {
@@ -677,10 +726,10 @@ impl RebuilderState {
                 };
                 self.stack_sound()
                     && self.answered >= 1
-                    && self.answered + to_ask <= most_questions + self.stage
+                    && self.answered + to_ask <= most_questions + self.stage.questions_had()
                     && self.counted <= most_counted
             }
-            WHOLE => {
+            Phase::Whole => {
                 self.stack_sound()
                     && self.answered >= 1
                     && self.answered < most_questions
@@ -688,17 +737,20 @@ impl RebuilderState {
                     && self.counted > settings.ceiling
                     && self.counted <= settings.ceiling + most_bytes
             }
-            _ => false,
         }
     }
 
     fn stack_sound(&self) -> bool {
         let m = self.settings.m;
         let stage_suits = match (self.leftmost(), self.stage) {
-            (None, stage) => stage == 0,
-            (Some(piece), 0) => piece.p.abs_diff(piece.q) <= 1,
-            (Some(piece), 1..=3) => self.takes_anchors(piece),
-            (Some(_), stage) => stage == ALL_BITS,
+            (None, stage) => stage == Stage::Hash,
+            (Some(piece), Stage::Hash) => piece.q == piece.p,
+            (Some(piece), Stage::PutIn) => piece.q + 1 == piece.p,
+            (Some(piece), Stage::TakeOut) => piece.q == piece.p + 1,
+            (Some(piece), Stage::Anchor1 | Stage::Anchor2 | Stage::Anchor3) => {
+                self.takes_anchors(piece)
+            }
+            (Some(_), Stage::AllBits) => true,
         };
         if !stage_suits {
             return false;
@@ -732,44 +784,56 @@ impl RebuilderState {
     }
 
     /// The stage behind hash and syndrome.
-    fn stage_unsettled(&self, piece: Piece) -> usize {
+    fn stage_unsettled(&self, piece: Piece) -> Stage {
         if self.takes_anchors(piece) {
-            1
+            Stage::Anchor1
         } else {
-            ALL_BITS
+            Stage::AllBits
         }
     }
 
     /// The stage at which work on the leftmost piece begins.
-    fn first_stage(&self) -> usize {
+    fn first_stage(&self) -> Stage {
         match self.leftmost() {
-            None => 0,
-            Some(piece) if piece.p.abs_diff(piece.q) <= 1 => 0,
+            None => Stage::Hash,
+            Some(piece) if piece.q == piece.p => Stage::Hash,
+            Some(piece) if piece.q + 1 == piece.p => Stage::PutIn,
+            Some(piece) if piece.q == piece.p + 1 => Stage::TakeOut,
             Some(piece) => self.stage_unsettled(piece),
         }
     }
 
-    /// The offset of the anchor asked for at stage 1, 2 or 3.
+    /// The stage after an answer that did not settle or split the leftmost piece.
+    fn next_stage(&self, piece: Piece) -> Stage {
+        match self.stage {
+            Stage::Hash | Stage::PutIn | Stage::TakeOut => self.stage_unsettled(piece),
+            Stage::Anchor1 => Stage::Anchor2,
+            Stage::Anchor2 => Stage::Anchor3,
+            Stage::Anchor3 | Stage::AllBits => Stage::AllBits,
+        }
+    }
+
+    /// The offset of the anchor asked for. Only at the stages of anchors.
     fn anchor_offset(&self, piece: Piece) -> usize {
         let m = self.settings.m;
         let c = (piece.p - m) / 2;
         match self.stage {
-            1 => c,
-            2 => c + m,
-            _ => c - m,
+            Stage::Anchor2 => c + m,
+            Stage::Anchor3 => c - m,
+            _ => c,
         }
     }
 
     /// Kind, start and length of the question that waits. Not for a finished state.
     fn question(&self) -> (u32, usize, usize) {
-        if self.phase == WHOLE {
+        if self.phase == Phase::Whole {
             return (BITS, 0, self.n);
         }
         let piece = self.leftmost().expect("a piece waits");
         match self.stage {
-            0 if piece.p == piece.q => (HASH, piece.x, piece.p),
-            0 => (SYNDROME, piece.x, piece.p),
-            ALL_BITS => (BITS, piece.x, piece.p),
+            Stage::Hash => (HASH, piece.x, piece.p),
+            Stage::PutIn | Stage::TakeOut => (SYNDROME, piece.x, piece.p),
+            Stage::AllBits => (BITS, piece.x, piece.p),
             _ => (BITS, piece.x + self.anchor_offset(piece), self.settings.m),
         }
     }
@@ -779,7 +843,7 @@ impl RebuilderState {
     /// Reads the answer to the question that waits.
     fn read_answer<'a>(&self, message: &'a [u8]) -> Result<Answer<'a>, Refusal> {
         let (awaited, length) = match self.phase {
-            OPENING => (OPEN, 0),
+            Phase::Opening => (OPEN, 0),
             _ => {
                 let (kind, _, length) = self.question();
                 (kind, length)
@@ -824,7 +888,7 @@ impl RebuilderState {
 
     /// Takes the opening's answer.
     fn open(&mut self, n: usize, string: &mut [u8]) {
-        self.phase = PIECES;
+        self.phase = Phase::Pieces;
         self.n = n;
         string[..n.div_ceil(8)].fill(0);
         self.push(Piece {
@@ -843,8 +907,8 @@ impl RebuilderState {
         sheet[..ROW_BYTES * self.rows].fill(0);
         self.rows = 0;
         self.add_row(sheet, 0, self.n, BY_BITS);
-        self.phase = PIECES;
-        self.stage = 0;
+        self.phase = Phase::Pieces;
+        self.stage = Stage::Hash;
         self.waiting = 0;
         self.pieces = [Piece::default(); MAX_WAITING];
     }
@@ -860,7 +924,7 @@ impl RebuilderState {
                 Some(BY_HASH)
             }
             Answer::Syndrome(a, value) => {
-                let (edit, how) = if piece.q < piece.p {
+                let (edit, how) = if self.stage == Stage::PutIn {
                     (Some(put_in(copy, a)), BY_PUT_IN)
                 } else {
                     (take_out(copy, a), BY_TAKE_OUT)
@@ -872,7 +936,7 @@ impl RebuilderState {
                         how
                     })
             }
-            Answer::Bits(bytes) if self.stage == ALL_BITS => {
+            Answer::Bits(bytes) if self.stage == Stage::AllBits => {
                 write_bits(string, piece.x, Bits::whole(bytes, piece.p));
                 Some(BY_BITS)
             }
@@ -894,10 +958,8 @@ impl RebuilderState {
             self.add_row(sheet, piece.x, piece.p, how);
             self.pop();
             self.stage = self.first_stage();
-        } else if self.stage == 0 {
-            self.stage = self.stage_unsettled(piece);
         } else {
-            self.stage += 1;
+            self.stage = self.next_stage(piece);
         }
     }
 
@@ -964,12 +1026,12 @@ fn rebuilder_start(
     let state = RebuilderState {
         settings,
         y_bits: bits,
-        phase: OPENING,
+        phase: Phase::Opening,
         n: 0,
         answered: 0,
         counted: 0,
         rows: 0,
-        stage: 0,
+        stage: Stage::Hash,
         waiting: 0,
         pieces: [Piece::default(); MAX_WAITING],
     };
@@ -1010,7 +1072,7 @@ fn rebuilder_call(
     state.answered += 1;
     match (state.phase, answer) {
         (_, Answer::Opening(n)) => state.open(n, string),
-        (WHOLE, Answer::Bits(bytes)) => {
+        (Phase::Whole, Answer::Bits(bytes)) => {
             state.counted += message.len();
             state.take_whole(bytes, string, sheet);
         }
@@ -1018,7 +1080,7 @@ fn rebuilder_call(
             state.counted += message.len();
             state.take_on_piece(answer, y, string, sheet);
             if state.counted > state.settings.ceiling && state.waiting > 0 {
-                state.phase = WHOLE;
+                state.phase = Phase::Whole;
             }
         }
     }

@@ -4,7 +4,8 @@ use std::fmt;
 
 use crate::layout::{
     field, HOLDER_ANSWERS, REBUILDER_ANSWERED, REBUILDER_COUNTED, REBUILDER_M, REBUILDER_N,
-    REBUILDER_PHASE, REBUILDER_ROWS, REBUILDER_WAITING, ROW_HOW, ROW_LENGTH, ROW_START,
+    REBUILDER_PHASE, REBUILDER_ROWS, REBUILDER_STAGE, REBUILDER_WAITING, ROW_HOW, ROW_LENGTH,
+    ROW_START,
 };
 use crate::{
     sheet_rows, unpack, BitString, Ends, Library, Refusal, ResumeError, Saved, HOLDER_BYTES,
@@ -199,7 +200,10 @@ impl Rebuilder {
             sheet,
             question: waiting,
         } = saved;
-        let finished = field(&state, REBUILDER_PHASE) == 1 && field(&state, REBUILDER_WAITING) == 0;
+        // A finished state has stage 0; a number that no stage has gets 3 whatever Y's bit count is.
+        let finished = field(&state, REBUILDER_PHASE) == 1
+            && field(&state, REBUILDER_STAGE) == 0
+            && field(&state, REBUILDER_WAITING) == 0;
         let mut question = [0; QUESTION_BYTES];
         // An empty message ends inside its kind. A refusal before that one is the state's or Y's; a
         // finished state is out of turn.

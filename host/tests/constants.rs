@@ -444,12 +444,12 @@ fn offsets() {
     };
     assert_eq!((head(&state), run(&state)), (settings, [0; 7]));
     assert_eq!(call(&mut state, &message(&[0, 101])), [3, 46, 9]);
-    assert_eq!(run(&state), [1, 101, 1, 0, 0, 1, 1]);
+    assert_eq!(run(&state), [1, 101, 1, 0, 0, 3, 1]);
     assert_eq!(piece(&state, 0), [0, 101, 0, 120]);
     assert_eq!(call(&mut state, &[3, 0, 0]), [3, 55, 9]);
-    assert_eq!(run(&state), [1, 101, 2, 3, 0, 2, 1]);
+    assert_eq!(run(&state), [1, 101, 2, 3, 0, 4, 1]);
     assert_eq!(call(&mut state, &[3, 0xff, 0x80]), [3, 0, 55]);
-    assert_eq!(run(&state), [1, 101, 3, 6, 1, 4, 2]);
+    assert_eq!(run(&state), [1, 101, 3, 6, 1, 6, 2]);
     assert_eq!(piece(&state, 1), [0, 55, 0, 64]);
     assert_eq!(piece(&state, 0), [64, 37, 73, 47]);
     assert_eq!(head(&state), settings);

@@ -5,7 +5,7 @@
 mod common;
 
 use common::*;
-use lunetteorris::model::{holder_sound, rebuilder_sound, Model, MAX_ANSWERS};
+use lunetteorris::model::{holder_sound, legal, rebuilder_sound, Model, MAX_ANSWERS};
 use lunetteorris::{
     sheet_rows, unpack, Ends, Library, Refusal, HOLDER_BYTES, MAX_BITS, QUESTION_BYTES,
     REBUILDER_BYTES, ROW_BYTES,
@@ -462,6 +462,142 @@ fn fields_of_a_holder_state() {
     seen.hold(30_000, &[0, 2, 3, 4, 5, 6, 8]);
 }
 
+/// Each number in place of opened, phase or stage. One that none has gets 3, for a string of any
+/// bit count; 2 comes first only for a string that breaks the string rule.
+#[test]
+fn numbers_that_none_has() {
+    let random = &mut Random::new(43);
+    let mut seen = Seen::default();
+    let mut sound = [0; 7];
+    let any = |random: &mut Random| {
+        let any = random.number() | 8;
+        [any, 1 << 8, 1 << 16, 1 << 31, u32::MAX]
+    };
+    for _ in 0..60 {
+        let (holders, rebuilders) = short_run(random, 300);
+        for case in rebuilders {
+            for (at, known) in [(PHASE, 3), (STAGE, 7)] {
+                for number in (0..10).chain(any(random)) {
+                    let mut case = case.clone();
+                    set_field(&mut case.side.state, at, number);
+                    let is_sound = rebuilder_sound(&case.side.state);
+                    if at == STAGE && field(&case.side.state, WAITING) == 0 {
+                        assert_eq!(is_sound, number == 0, "no piece waits");
+                    }
+                    let (outcome, _) = case.clone().call(&mut seen);
+                    if number >= known {
+                        assert!(!is_sound);
+                        assert_eq!(outcome, Err(Refusal::OutOfTurn));
+                    } else if at == STAGE && is_sound {
+                        sound[number as usize] += 1;
+                    }
+                    for (y, bits) in damaged_strings(random, &case.y, case.bits) {
+                        let kept = legal(&y, bits);
+                        if kept && bits == case.bits {
+                            continue;
+                        }
+                        let case = RebuilderCase {
+                            y,
+                            bits,
+                            ..case.clone()
+                        };
+                        let wanted = if kept && number >= known {
+                            Refusal::OutOfTurn
+                        } else {
+                            Refusal::BadString
+                        };
+                        assert_eq!(case.call(&mut seen).0, Err(wanted));
+                    }
+                }
+            }
+        }
+        for case in holders {
+            for number in (2..10).chain(any(random)) {
+                let mut case = case.clone();
+                set_field(&mut case.side.state, HOLDER_OPENED, number);
+                assert!(!holder_sound(&case.side.state));
+                let (outcome, _) = case.clone().call(&mut seen);
+                assert_eq!(outcome, Err(Refusal::OutOfTurn));
+                for (x, bits) in damaged_strings(random, &case.x, case.bits) {
+                    let wanted = if legal(&x, bits) {
+                        Refusal::OutOfTurn
+                    } else {
+                        Refusal::BadString
+                    };
+                    let case = HolderCase {
+                        x,
+                        bits,
+                        ..case.clone()
+                    };
+                    assert_eq!(case.call(&mut seen).0, Err(wanted));
+                }
+            }
+        }
+    }
+    println!("{sound:?}");
+    assert!(sound.iter().all(|&states| states > 0), "{sound:?}");
+    seen.hold(100_000, &[0, 2, 3]);
+}
+
+/// The stage and the lengths of the one waiting piece: which go together, and how many questions
+/// may have been answered.
+#[test]
+fn stages_and_lengths() {
+    let mut seen = Seen::default();
+    let (m, h, n) = (8, 9, 200);
+    let y = vec![0; 25];
+    // 4(m + h) = 68.
+    for p in [1, 2, 7, 8, 9, 67, 68, 69, 200] {
+        for q in [0, 1, 2, 3, 6, 7, 8, 9, 10, 66, 67, 68, 69, 70, 199, 200] {
+            for stage in 0..8 {
+                let suits = match stage {
+                    0 => q == p,
+                    1 => q + 1 == p,
+                    2 => q == p + 1,
+                    3..=5 => p >= 68 && q >= 8,
+                    6 => true,
+                    _ => false,
+                };
+                // 9 floor(n/m) + 6 in all, 9 floor(p/m) + 5 for the piece but for those it had.
+                let had = [0, 0, 0, 1, 2, 3, 4, 5][stage as usize];
+                let most = 9 * 25 + 6 + had - (9 * (p / 8) + 5);
+                for (answered, within) in [(0, false), (1, true), (most, true), (most + 1, false)] {
+                    let mut state = vec![0; REBUILDER_BYTES];
+                    let head = [m, h, 1, 1, 100, 200, 1, n, answered, 0, 0, stage, 1];
+                    let piece = [0, p, 0, q];
+                    for (i, value) in head.into_iter().chain(piece).enumerate() {
+                        set_field(&mut state, 4 * i, value);
+                    }
+                    let goes_on = suits && within;
+                    let told = || format!("p {p}, q {q}, stage {stage}, {answered} answered");
+                    assert_eq!(rebuilder_sound(&state), goes_on, "{}", told());
+                    let side = RebuilderSide {
+                        state,
+                        string: vec![0; 25],
+                        sheet: vec![0; ROW_BYTES * sheet_rows(200, 8)],
+                        question: vec![0; QUESTION_BYTES],
+                    };
+                    // An empty message ends inside its kind.
+                    let case = RebuilderCase {
+                        side,
+                        y: y.clone(),
+                        bits: 200,
+                        message: vec![],
+                        n: 200,
+                    };
+                    let wanted = if goes_on {
+                        Refusal::Truncated
+                    } else {
+                        Refusal::OutOfTurn
+                    };
+                    assert_eq!(case.call(&mut seen).0, Err(wanted), "{}", told());
+                }
+            }
+        }
+    }
+    seen.hold(4_000, &[3, 4]);
+}
+
 #[test]
 fn buffers_and_strings() {
     let random = &mut Random::new(35);
@@ -782,8 +918,8 @@ fn formed_answer(random: &mut Random, state: &[u8], y: &[bool], longest: usize) 
     let copy = &y[y_start..y_start + q];
     let settles = random.bit();
     match field(state, STAGE) {
-        0 if p == q => message(&[1, if settles { hash_of(copy) } else { any_hash }]),
-        0 => {
+        0 => message(&[1, if settles { hash_of(copy) } else { any_hash }]),
+        1 | 2 => {
             let a = random.between(0, p);
             let s = packed(copy);
             let mut out = vec![0; p.div_ceil(8)];
@@ -795,7 +931,7 @@ fn formed_answer(random: &mut Random, state: &[u8], y: &[bool], longest: usize) 
             };
             message(&[2, a as u32, hash])
         }
-        4 => bits_answer(&random_bits(random, p)),
+        6 => bits_answer(&random_bits(random, p)),
         _ => {
             let m = field(state, M);
             let r = random.between(0, q - m);
@@ -1028,21 +1164,25 @@ fn made_up_state(random: &mut Random, y_bits: usize) -> Vec<u8> {
         to_ask += 9 * (p / m_bits) + 5;
         to_write += sheet_rows(p, m_bits);
     }
-    let stages: &[u32] = match leftmost_of(&state, waiting) {
-        None => &[0],
+    let stages: Vec<u32> = match leftmost_of(&state, waiting) {
+        None => vec![0],
         Some([_, p, _, q]) => {
-            match (p.abs_diff(q) <= 1, p >= 4 * (m + h) as usize && q >= m_bits) {
-                (true, true) => &[0, 0, 1, 2, 3, 4],
-                (true, false) => &[0, 0, 4],
-                (false, true) => &[1, 2, 3, 4],
-                (false, false) => &[4],
-            }
+            let first = [q == p, q + 1 == p, q == p + 1]
+                .iter()
+                .position(|&suits| suits);
+            let first = first.map_or(vec![], |stage| vec![stage as u32; 2]);
+            let anchors: &[u32] = if p >= 4 * (m + h) as usize && q >= m_bits {
+                &[3, 4, 5]
+            } else {
+                &[]
+            };
+            [&first, anchors, &[6]].concat()
         }
     };
     let stage = if wrong == Stage {
-        random.below(6) as u32
+        random.below(8) as u32
     } else {
-        random.pick(stages)
+        random.pick(&stages)
     };
     let phase = random.pick(if waiting > 0 { &[1, 1, 2] } else { &[1] });
     let phase = if wrong == Phase {
@@ -1054,7 +1194,7 @@ fn made_up_state(random: &mut Random, y_bits: usize) -> Vec<u8> {
     let most_questions = 9 * (n / m_bits) + 6;
     let most_answered = match phase {
         2 => most_questions - 1,
-        _ => (most_questions + stage as usize).saturating_sub(to_ask),
+        _ => (most_questions + questions_had(stage)).saturating_sub(to_ask),
     };
     let answered = near(random, most_answered, wrong == Answered).max(1);
     let over = ceiling as usize + whole.max(9);
@@ -1144,7 +1284,7 @@ fn limits_of_the_stack() {
                 1,
                 0,
                 0,
-                4,
+                6,
             ];
             for (i, value) in head.into_iter().enumerate() {
                 set_field(&mut state, 4 * i, value);

@@ -37,7 +37,8 @@ struct Tally {
     rows: [usize; 6],
     whole: usize,
     most_waiting: usize,
-    most_stage: usize,
+    /// Questions asked of pieces, by stage.
+    stages: [usize; 7],
     wrong_strings: usize,
     unsettled_hashes: usize,
     unsettled_syndromes: usize,
@@ -68,7 +69,7 @@ impl Run<'_> {
     /// by the answer on its hash or syndrome, with X's own bits.
     fn exact(&self) -> Option<[usize; 3]> {
         let [x, p, y, q] = leftmost(&self.rebuilder.state)?;
-        if self.state(PHASE) != 1 || self.state(STAGE) != 0 {
+        if self.state(PHASE) != 1 || self.state(STAGE) > 2 {
             return None;
         }
         let (original, copy) = (&self.x[x..x + p], &self.y[y..y + q]);
@@ -154,7 +155,7 @@ fn run(random: &mut Random, x: &[bool], y: &[bool], settings: Numbers, tally: &m
         if let Some([start, bits, how]) = exact {
             assert_eq!(run.rows().last(), Some(&[start, bits, how]));
             assert_eq!(run.string()[start..start + bits], x[start..start + bits]);
-        } else if field(&before, PHASE) == 1 && field(&before, STAGE) == 0 {
+        } else if field(&before, PHASE) == 1 && field(&before, STAGE) <= 2 {
             let unsettled = run.state(ROWS) == field(&before, ROWS);
             tally.unsettled_hashes += (unsettled && question[0] == 1) as usize;
             tally.unsettled_syndromes += (unsettled && question[0] == 2) as usize;
@@ -162,9 +163,14 @@ fn run(random: &mut Random, x: &[bool], y: &[bool], settings: Numbers, tally: &m
         tally.calls += 2;
         tally.whole += (field(&before, PHASE) == 2) as usize;
         tally.most_waiting = tally.most_waiting.max(run.state(WAITING));
-        tally.most_stage = tally.most_stage.max(run.state(STAGE));
+        let asked = asked(&run.rebuilder.state).map_or(vec![], |asked| asked.to_vec());
+        assert_eq!(decoded(&run.rebuilder.question[..length]), asked);
+        if run.state(PHASE) == 1 && length > 0 {
+            tally.stages[run.state(STAGE)] += 1;
+        }
     }
     run.check_end(tally);
+    assert_eq!(run.state(STAGE), 0, "no piece waits");
     let again = rebuilder_call(&mut run.rebuilder, y_packed.as_bytes(), y_bits, &[0, 0]);
     assert_eq!(again, Err(Refusal::OutOfTurn), "finished");
     tally.runs += 1;
@@ -191,7 +197,8 @@ fn up_to_3000_bits() {
     println!("{tally:?}");
     assert!(tally.runs >= 2_000);
     assert!(tally.rows[1..].iter().all(|&rows| rows > 100));
-    assert!(tally.whole > 100 && tally.most_stage == 4);
+    assert!(tally.whole > 100);
+    assert!(tally.stages.iter().all(|&asked| asked > 100));
     assert!(tally.unsettled_hashes > 100 && tally.unsettled_syndromes > 100);
     assert!(
         tally.wrong_strings > 0,

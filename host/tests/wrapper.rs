@@ -307,6 +307,14 @@ fn finished_runs_that_were_not_saved_so() {
     );
     let other = Rebuilder::resume("1010".parse().unwrap(), saved.clone());
     assert_eq!(other.err(), Some(ResumeError::Refused(Refusal::BadString)));
+    // No finished state has another stage; 7 is none at all.
+    for stage in [1, 6, 7] {
+        let mut saved = saved.clone();
+        set_field(&mut saved.state, STAGE, stage);
+        let same = Rebuilder::resume(y.clone(), saved.clone());
+        assert_eq!(same.err(), Some(ResumeError::Refused(Refusal::OutOfTurn)));
+        assert!(Rebuilder::resume("1010".parse().unwrap(), saved).is_err());
+    }
     let bad_row = Some(ResumeError::BadRow { index: 0 });
     for how in [0, 6] {
         let mut saved = saved.clone();
@@ -373,6 +381,10 @@ fn runs_that_were_not_saved_so() {
         // The library finds an unsound state and another copy.
         assert_eq!(
             resumed(|saved| set_field(&mut saved.state, PHASE, 9)),
+            Some(ResumeError::Refused(Refusal::OutOfTurn))
+        );
+        assert_eq!(
+            resumed(|saved| set_field(&mut saved.state, STAGE, 7)),
             Some(ResumeError::Refused(Refusal::OutOfTurn))
         );
         assert_eq!(

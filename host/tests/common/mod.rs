@@ -4,7 +4,7 @@
 pub mod c;
 
 pub use lunetteorris::layout::{
-    HOLDER_ANSWERS, REBUILDER_ANSWERED as ANSWERED, REBUILDER_CEILING as CEILING,
+    HOLDER_ANSWERS, HOLDER_OPENED, REBUILDER_ANSWERED as ANSWERED, REBUILDER_CEILING as CEILING,
     REBUILDER_COUNTED as COUNTED, REBUILDER_H as H, REBUILDER_KEY as KEY, REBUILDER_M as M,
     REBUILDER_N as N, REBUILDER_PHASE as PHASE, REBUILDER_PIECES as PIECES, REBUILDER_ROWS as ROWS,
     REBUILDER_STAGE as STAGE, REBUILDER_WAITING as WAITING, REBUILDER_Y_BITS as Y_BITS, ROW_HOW,
@@ -280,6 +280,32 @@ pub fn piece(state: &[u8], i: usize) -> [usize; 4] {
 pub fn leftmost(state: &[u8]) -> Option<[usize; 4]> {
     let last = field(state, WAITING).checked_sub(1)?;
     Some(piece(state, last))
+}
+
+/// The question that a state asks after the opening, by its phase and stage as docs/STATE.md has
+/// them: kind, start, length. None when finished.
+pub fn asked(state: &[u8]) -> Option<[usize; 3]> {
+    let [x, p, _, q] = leftmost(state)?;
+    if field(state, PHASE) == 2 {
+        return Some([3, 0, field(state, N)]);
+    }
+    let m = field(state, M);
+    let c = || (p - m) / 2;
+    Some(match field(state, STAGE) {
+        0 if q == p => [1, x, p],
+        1 if q + 1 == p => [2, x, p],
+        2 if q == p + 1 => [2, x, p],
+        3 => [3, x + c(), m],
+        4 => [3, x + c() + m, m],
+        5 => [3, x + c() - m, m],
+        6 => [3, x, p],
+        stage => panic!("stage {stage} of a piece of {p} bits with {q} of Y"),
+    })
+}
+
+/// How many questions the leftmost piece has had at most when it comes to a stage.
+pub fn questions_had(stage: u32) -> usize {
+    stage.saturating_sub(2) as usize
 }
 
 /// The rows in use: start, length, how.
