@@ -1,2 +1,3 @@
 -- What the proofs share.
+pub mod LentArray
 pub mod Lines

@@ -2,7 +2,6 @@
 // rows and the rebuilt string, or the number of the refusal.
 ghost use Prim.Native.Nat.{_≤_};
 ghost use lib.ListN.{length};
-ghost use Rattle.ends.specs.RebuilderCall.{rowsNeeded};
 use ends::Holder;
 use ends::HolderAnswer;
 use ends::HolderOut;
@@ -30,6 +29,12 @@ struct Session {
     progress: Progress,
     holder: Holder,
     rebuilder: Rebuilder,
+}
+
+// The course of a run: the session, and the sheet of 16,385 rows, enough for any run: 2 * (65536 / 8) + 1.
+struct Course {
+    session: Session,
+    sheet: [Row; 16385],
 }
 
 fn print(text: &[u8]) {
@@ -68,11 +73,11 @@ fn print_row(row: Row) {
 }
 
 // The used rows in the sheet's order.
-fn print_rows(sheet: &[u8; 196620], used: u32) {
+fn print_rows(sheet: [Row; 16385], used: u32) {
     let rows = at_most(used as usize, 16385);
     let mut i: usize = 0;
     while i < rows {
-        print_row(layout::read_row(sheet, i));
+        print_row(sheet[i]);
         i += 1;
     }
 }
@@ -106,47 +111,60 @@ fn progress_of(answer: RebuilderAnswer) -> Progress {
     }
 }
 
-// The answer, the first `size` bytes of its buffer, goes to the rebuilder. The sheet has 16,385 rows, enough for any run:
-// 2 * (65536 / 8) + 1; what the call does to it lies in these.
-fn tell(
-    st: Rebuilder,
-    y: &[u8],
-    bits: usize,
-    reply: &[u8],
-    size: usize,
-    string: &mut [u8; 8192],
-    question: &mut [u8; 8],
-) -> RebuilderOut
-    requires { ⌜ length (now reply) ≤ 8200 ⌝ }
-    ensures { λ r. ⌜ rowsNeeded (r .sheet) ≤ 16385 ⌝ }
-{
-    let sent = at_most(size, reply.len());
-    print_message(b'A', &reply[0..sent]);
-    ends::rebuilder_call(st, y, bits, &reply[0..sent], 16385, string, question)
+// The course after the rebuilder's call.
+fn heard(s: Session, out: RebuilderOut, sheet: [Row; 16385]) -> Course {
+    let answer = out.answer;
+    let rebuilder = out.state;
+    let holder = s.holder;
+    let next = Session {
+        progress: progress_of(answer),
+        holder: holder,
+        rebuilder: rebuilder,
+    };
+    Course {
+        session: next,
+        sheet: sheet,
+    }
 }
 
-// The session after an answer of so many bytes; the sheet is changed as the rebuilder's call says.
+// An answer goes to the rebuilder, whose call is lent the sheet.
 fn hear(
     s: Session,
     y: &[u8],
     bits: usize,
-    reply: &[u8; 8200],
+    answer: &[u8],
+    mut sheet: [Row; 16385],
+    string: &mut [u8],
+    question: &mut [u8],
+) -> Course {
+    let out = ends::rebuilder_call_on_sheet(
+        s.rebuilder,
+        y,
+        bits,
+        answer,
+        &mut sheet,
+        string,
+        question,
+    );
+    heard(s, out, sheet)
+}
+
+// The answer, the first `size` bytes of its buffer, is printed and goes to the rebuilder.
+fn tell(
+    s: Session,
+    y: &[u8],
+    bits: usize,
+    reply: &[u8],
     size: usize,
+    sheet: [Row; 16385],
     string: &mut [u8; 8192],
     question: &mut [u8; 8],
-    sheet: &mut [u8; 196620],
-) -> Session {
-    let out = tell(s.rebuilder, y, bits, reply, size, string, question);
-    let change = out.sheet;
-    let answer = out.answer;
-    let rebuilder = out.state;
-    let holder = s.holder;
-    layout::apply_change(sheet, change);
-    Session {
-        progress: progress_of(answer),
-        holder: holder,
-        rebuilder: rebuilder,
-    }
+) -> Course
+    requires { ⌜ length (now reply) ≤ 8200 ⌝ }
+{
+    let sent = at_most(size, reply.len());
+    print_message(b'A', &reply[0..sent]);
+    hear(s, y, bits, &reply[0..sent], sheet, string, question)
 }
 
 fn with_progress(s: Session, progress: Progress) -> Session {
@@ -176,7 +194,7 @@ fn ask(
     bits: usize,
     question: &[u8],
     size: usize,
-    reply: &mut [u8; 8200],
+    reply: &mut [u8],
 ) -> HolderOut
     requires { ⌜ length (now question) ≤ 8200 ⌝ }
 {
@@ -193,19 +211,25 @@ fn exchange(
     xbits: usize,
     y: &[u8],
     ybits: usize,
+    sheet: [Row; 16385],
     string: &mut [u8; 8192],
     question: &mut [u8; 8],
-    sheet: &mut [u8; 196620],
-) -> Session {
+) -> Course {
     let mut reply = [0u8; 8200];
     let out = ask(s.holder, x, xbits, question, size, &mut reply);
     let answer = out.answer;
     let holder = out.state;
     match answer {
-        HolderAnswer::Refused(e) => with_progress(s, Progress::TurnedDown(e)),
+        HolderAnswer::Refused(e) => {
+            let last = with_progress(s, Progress::TurnedDown(e));
+            Course {
+                session: last,
+                sheet: sheet,
+            }
+        }
         HolderAnswer::Replied(length) => {
             let next = with_holder(s, holder);
-            hear(next, y, ybits, &reply, length, string, question, sheet)
+            tell(next, y, ybits, &reply, length, sheet, string, question)
         }
     }
 }
@@ -219,23 +243,38 @@ fn converse(
     ybits: usize,
     string: &mut [u8; 8192],
     question: &mut [u8; 8],
-    sheet: &mut [u8; 196620],
-) -> Session {
+) -> Course {
     let mut s = first;
+    let none = Row {
+        start: 0,
+        len: 0,
+        how: 0,
+    };
+    let mut sheet = [none; 16385];
     let mut left: u32 = 100000;
     while 0 < left {
         let progress = s.progress;
         let Progress::Asking(size) = progress else {
-            return s;
+            return Course {
+                session: s,
+                sheet: sheet,
+            };
         };
-        s = exchange(s, size, x, xbits, y, ybits, string, question, sheet);
+        let after = exchange(s, size, x, xbits, y, ybits, sheet, string, question);
+        s = after.session;
+        sheet = after.sheet;
         left -= 1;
     }
-    s
+    Course {
+        session: s,
+        sheet: sheet,
+    }
 }
 
 // The lines after the last answer. No question can still wait here: `converse` has more rounds than any run has questions.
-fn print_end(s: Session, string: &[u8; 8192], sheet: &[u8; 196620]) {
+fn print_end(course: Course, string: &[u8; 8192]) {
+    let s = course.session;
+    let sheet = course.sheet;
     let progress = s.progress;
     let rebuilder = s.rebuilder;
     match progress {
@@ -258,23 +297,13 @@ fn run(settings: Settings, x: &[u8], xbits: usize, y: &[u8], ybits: usize) {
         StartAnswer::NotBegun(e) => print_refusal(e),
         StartAnswer::Begun(size) => {
             let mut string = [0u8; 8192];
-            let mut sheet = [0u8; 196620];
             let first = Session {
                 progress: Progress::Asking(size),
                 holder: ends::fresh_holder(),
                 rebuilder: state,
             };
-            let last = converse(
-                first,
-                x,
-                xbits,
-                y,
-                ybits,
-                &mut string,
-                &mut question,
-                &mut sheet,
-            );
-            print_end(last, &string, &sheet);
+            let last = converse(first, x, xbits, y, ybits, &mut string, &mut question);
+            print_end(last, &string);
         }
     }
 }

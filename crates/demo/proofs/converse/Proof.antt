@@ -4,10 +4,10 @@ use Rattle.demo.proofs.converse.Statement.{statement}
 use Rattle.demo.proofs.converse.Tie as tie
 
 abbrev Inv-loop : tie.InvT-loop
-Inv-loop x xbits y ybits string₀ question₀ sheet₀ s₀ left₀ string question sheet s left = Unit {0}
+Inv-loop x xbits y ybits string₀ question₀ s₀ sheet₀ left₀ string question s sheet left = Unit {0}
 
 abbrev μ-loop : tie.MeasureT-loop
-μ-loop x xbits y ybits string₀ question₀ sheet₀ s₀ left₀ string question sheet s left = left
+μ-loop x xbits y ybits string₀ question₀ s₀ sheet₀ left₀ string question s sheet left = left
 
 loop-holds : tie.Need-loop-holds Inv-loop μ-loop
 loop-holds c = search needs

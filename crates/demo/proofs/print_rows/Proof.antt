@@ -5,10 +5,10 @@ use Rattle.demo.proofs.print_rows.Statement.{statement}
 use Rattle.demo.proofs.print_rows.Tie as tie
 
 abbrev Inv-loop : tie.InvT-loop
-Inv-loop sheet used rows i₀ i = rows ≤ 16385
+Inv-loop used sheet rows i₀ i = rows ≤ 16385
 
 abbrev μ-loop : tie.MeasureT-loop
-μ-loop sheet used rows i₀ i = rows - i
+μ-loop used sheet rows i₀ i = rows - i
 
 at-most-requires : tie.Need-at-most-requires Inv-loop μ-loop
 at-most-requires c κs = search needs
@@ -16,8 +16,11 @@ at-most-requires c κs = search needs
 loop-holds : tie.Need-loop-holds Inv-loop μ-loop
 loop-holds c = search needs
 
-read-row-requires : tie.Need-read-row-requires Inv-loop μ-loop
-read-row-requires c κs = search needs
+mul-print-row : tie.Need-mul-print-row Inv-loop μ-loop
+mul-print-row c = search needs
+
+array-copy-out-print-row : tie.Need-array-copy-out-print-row Inv-loop μ-loop
+array-copy-out-print-row c = search needs
 
 print-row-requires : tie.Need-print-row-requires Inv-loop μ-loop
 print-row-requires c κs = search needs
@@ -42,7 +45,8 @@ print-rows-spec =
     μ-loop
     at-most-requires
     loop-holds
-    read-row-requires
+    mul-print-row
+    array-copy-out-print-row
     print-row-requires
     add-i
     loop-less

@@ -1,5 +1,4 @@
--- `demo::tell` is safe and ends, and gives a change that lies in 16,385 rows. Assumes nothing.
-use Rattle.ends.specs.code.SheetCallLaws.{change-fits}
+-- `demo::tell` is safe and ends. Assumes nothing.
 use borrow.Author.Needs.{needs}
 use Rattle.demo.proofs.tell.Statement.{statement}
 use Rattle.demo.proofs.tell.Tie as tie
@@ -19,20 +18,20 @@ part-print-message-end c = search needs
 print-message-requires : tie.Need-print-message-requires
 print-message-requires c κs = search needs
 
-sub-rebuilder-call : tie.Need-sub-rebuilder-call
-sub-rebuilder-call c = search needs
+sub-hear : tie.Need-sub-hear
+sub-hear c = search needs
 
-part-rebuilder-call-start : tie.Need-part-rebuilder-call-start
-part-rebuilder-call-start c = search needs
+part-hear-start : tie.Need-part-hear-start
+part-hear-start c = search needs
 
-part-rebuilder-call-end : tie.Need-part-rebuilder-call-end
-part-rebuilder-call-end c = search needs
+part-hear-end : tie.Need-part-hear-end
+part-hear-end c = search needs
 
-rebuilder-call-requires : tie.Need-rebuilder-call-requires
-rebuilder-call-requires c κs = search needs
+hear-requires : tie.Need-hear-requires
+hear-requires c κs = search needs
 
 returns : tie.Need-returns
-returns c = change-fits _ _ _ _ _ _ _ _ _ (c .rebuilder-call .result) (c .rebuilder-call .ensures)
+returns c = search needs
 
 pub tell-spec : {M : Type 1} → statement M
 tell-spec =
@@ -43,8 +42,8 @@ tell-spec =
     part-print-message-start
     part-print-message-end
     print-message-requires
-    sub-rebuilder-call
-    part-rebuilder-call-start
-    part-rebuilder-call-end
-    rebuilder-call-requires
+    sub-hear
+    part-hear-start
+    part-hear-end
+    hear-requires
     returns)
