@@ -7,13 +7,12 @@ use lib.ListN.{length}
 use lib.Dec.{leb}
 use Rattle.strings.specs.Bits.{atFront}
 use Rattle.strings.specs.StringRule.{stringRule}
-use Rattle.strings.specs.Refusals.{refusalNumber}
+use Rattle.strings.specs.Results.{Result, refusal, value, unless}
 use Rattle.strings.specs.declared.Refusal.the-variants.{BadSetting, BadString, OutOfTurn, BufferTooShort}
-use Rattle.codes.specs.Entries.{refusal, value}
 use Rattle.strings.specs.declared.settings.Settings.{Settings}
 use Rattle.strings.specs.SettingLimits.{withinLimits}
-use Rattle.ends.specs.HolderCall.{Heard, declines, replies, unlessHeard, holderCall, freshHolder}
-use Rattle.ends.specs.RebuilderCall.{Started, startDeclines, starts, unlessStarted, rebuilderStart, Taken, refuses, takes, unlessTaken, Rooms, rebuilderCall, stringAfter}
+use Rattle.ends.specs.HolderCall.{Reply, holderCall, freshHolder}
+use Rattle.ends.specs.RebuilderCall.{Started, rebuilderStart, Taken, Rooms, rebuilderCall, stringAfter}
 use Rattle.layout.specs.Layout.{holderSize, holderBytes, holderOf, isHolder, rebuilderSize, rebuilderBytes, rebuilderOf, isRebuilder}
 use Rattle.layout.specs.Sheet.{rowSize, sheetBytesAfter}
 use Rattle.cabi.specs.Packing.{packed}
@@ -30,10 +29,10 @@ holderMade s = cond (leb holderSize (length s))
 
 -- ---- the holder's call
 -- with the bytes s of its state, the bytes x of X, their bit count, a message and a reply buffer of room bytes: bytes that no state has get 3, after 2
-unfoldable pub holderOnBytes : (s x : List ℕ) (bits : ℕ) (msg : List ℕ) (room : ℕ) → Heard
+unfoldable pub holderOnBytes : (s x : List ℕ) (bits : ℕ) (msg : List ℕ) (room : ℕ) → Result Reply
 holderOnBytes s x bits msg room =
-    unlessHeard (stringRule x bits) BadString (
-    unlessHeard (isHolder s) OutOfTurn (
+    unless (stringRule x bits) BadString (
+    unless (isHolder s) OutOfTurn (
     holderCall (holderOf s) x bits msg room))
 
 pub record HolderLeft : Type 0 where
@@ -42,17 +41,17 @@ pub record HolderLeft : Type 0 where
   pub reply : List ℕ
 
 -- the value is the reply's length
-abbrev pub holderLeft : (s reply : List ℕ) → Heard → HolderLeft
-holderLeft s reply (declines e) = record { result = packed (refusal (refusalNumber e)); state = s; reply = reply }
-holderLeft s reply (replies next m) = record { result = packed (value (length m)); state = atFront (holderBytes next) s; reply = atFront m reply }
+abbrev pub holderLeft : (s reply : List ℕ) → Result Reply → HolderLeft
+holderLeft s reply (refusal number) = record { result = packed (refusal number); state = s; reply = reply }
+holderLeft s reply (value r) = record { result = packed (value (length (r .message))); state = atFront (holderBytes (r .state)) s; reply = atFront (r .message) reply }
 
 -- ---- the rebuilder's start
 -- fewer bytes than a state's get 9, after 1 and 2
-unfoldable pub startOnBytes : Settings → (y : List ℕ) (bits : ℕ) (stateRoom room : ℕ) → Started
+unfoldable pub startOnBytes : Settings → (y : List ℕ) (bits : ℕ) (stateRoom room : ℕ) → Result Started
 startOnBytes S y bits stateRoom room =
-    unlessStarted (withinLimits S) BadSetting (
-    unlessStarted (stringRule y bits) BadString (
-    unlessStarted (leb rebuilderSize stateRoom) BufferTooShort (
+    unless (withinLimits S) BadSetting (
+    unless (stringRule y bits) BadString (
+    unless (leb rebuilderSize stateRoom) BufferTooShort (
     rebuilderStart S y bits room)))
 
 pub record StartLeft : Type 0 where
@@ -61,16 +60,16 @@ pub record StartLeft : Type 0 where
   pub question : List ℕ
 
 -- the value is the first question's length
-abbrev pub startLeft : (s question : List ℕ) → Started → StartLeft
-startLeft s question (startDeclines e) = record { result = packed (refusal (refusalNumber e)); state = s; question = question }
-startLeft s question (starts st m) = record { result = packed (value (length m)); state = atFront (rebuilderBytes st) s; question = atFront m question }
+abbrev pub startLeft : (s question : List ℕ) → Result Started → StartLeft
+startLeft s question (refusal number) = record { result = packed (refusal number); state = s; question = question }
+startLeft s question (value b) = record { result = packed (value (length (b .question))); state = atFront (rebuilderBytes (b .state)) s; question = atFront (b .question) question }
 
 -- ---- the rebuilder's call
 -- with the bytes s of its state, the bytes y of Y, their bit count and a message: bytes that no state has get 3, after 2
-unfoldable pub rebuilderOnBytes : (s y : List ℕ) (bits : ℕ) (msg : List ℕ) → Rooms → Taken
+unfoldable pub rebuilderOnBytes : (s y : List ℕ) (bits : ℕ) (msg : List ℕ) → Rooms → Result Taken
 rebuilderOnBytes s y bits msg rooms =
-    unlessTaken (stringRule y bits) BadString (
-    unlessTaken (isRebuilder s) OutOfTurn (
+    unless (stringRule y bits) BadString (
+    unless (isRebuilder s) OutOfTurn (
     rebuilderCall (rebuilderOf s) y bits msg rooms))
 
 -- the room in lent bytes; that of the sheet in rows
@@ -85,13 +84,13 @@ pub record RebuilderLeft : Type 0 where
   pub question : List ℕ
 
 -- the value is the next question's length, 0 at the finish
-abbrev pub rebuilderLeft : (s string sheet question : List ℕ) → Taken → RebuilderLeft
-rebuilderLeft s string sheet question (refuses e) =
-    record { result = packed (refusal (refusalNumber e)); state = s; string = string; sheet = sheet; question = question }
-rebuilderLeft s string sheet question (takes k m) = record {
-  result = packed (value (length m));
-  state = atFront (rebuilderBytes (k .state)) s;
-  string = stringAfter string (k .string);
-  sheet = sheetBytesAfter sheet (k .sheet);
-  question = atFront m question;
+abbrev pub rebuilderLeft : (s string sheet question : List ℕ) → Result Taken → RebuilderLeft
+rebuilderLeft s string sheet question (refusal number) =
+    record { result = packed (refusal number); state = s; string = string; sheet = sheet; question = question }
+rebuilderLeft s string sheet question (value t) = record {
+  result = packed (value (length (t .question)));
+  state = atFront (rebuilderBytes (t .step .state)) s;
+  string = stringAfter string (t .step .string);
+  sheet = sheetBytesAfter sheet (t .step .sheet);
+  question = atFront (t .question) question;
 }

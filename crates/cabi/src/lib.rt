@@ -6,10 +6,11 @@ ghost use mathlib.Core.Path.{_≡_};
 ghost use mathlib.Core.List.{_++_};
 ghost use Prim.Native.Nat.{_*_, _≤_};
 ghost use lib.ListN.{length, drop};
-ghost use Rattle.codes.specs.Entries.{syndromeCall, hashCall, repairCall, leaves};
+ghost use Rattle.codes.specs.Entries.{syndromeCall, hashCall, repairCall, repairLeft};
+ghost use Rattle.strings.specs.Results.{mapped};
 ghost use Rattle.ends.specs.RebuilderCall.{rowsNeeded};
 ghost use Rattle.ends.specs.AnchorSearch.{anchorSearch};
-ghost use Rattle.cabi.specs.Packing.{packed, numbered, outcomeNumber, placeNumber};
+ghost use Rattle.cabi.specs.Packing.{packed, doneNumber, placeNumber};
 ghost use Rattle.cabi.specs.Calls.{holderMade, holderOnBytes, holderLeft, startOnBytes, startLeft, rebuilderOnBytes, rebuilderLeft, roomsIn};
 ghost use Rattle.layout.specs.Layout.{rebuilderSize, rebuilderBytes};
 ghost use Rattle.layout.specs.Sheet.{rowSize, sheetBytesAfter};
@@ -44,8 +45,8 @@ pub extern "C" fn lo_hash(s: &[u8], bits: usize, h: u32, key: u32) -> u64
 // The repair of a string to one of n bits with the syndrome a: 1 where it is done, 0 where there is none.
 #[no_mangle]
 pub extern "C" fn lo_repair(s: &[u8], bits: usize, n: usize, a: usize, out: &mut [u8]) -> u64
-    ensures { λ r. ⌜ r ≡ packed (numbered outcomeNumber (leaves (now (out .entry)) (repairCall (now (s .entry)) bits n a (length (now (out .entry)))) .answer)) ⌝ }
-    ensures { λ r. ⌜ now (out .exit) ≡ leaves (now (out .entry)) (repairCall (now (s .entry)) bits n a (length (now (out .entry)))) .buffer ⌝ }
+    ensures { λ r. ⌜ r ≡ packed (mapped doneNumber (repairLeft (now (out .entry)) (repairCall (now (s .entry)) bits n a (length (now (out .entry)))) .answer)) ⌝ }
+    ensures { λ r. ⌜ now (out .exit) ≡ repairLeft (now (out .entry)) (repairCall (now (s .entry)) bits n a (length (now (out .entry)))) .buffer ⌝ }
 {
     let answer = codes::repair(s, bits, n, a, out);
     packing::pack_repair(answer)
@@ -64,7 +65,7 @@ pub extern "C" fn lo_anchor(
     k: u32,
     a: &[u8],
 ) -> u64
-    ensures { λ r. ⌜ r ≡ packed (numbered placeNumber (anchorSearch (now (y .entry)) bits start q p s m k (now (a .entry)))) ⌝ }
+    ensures { λ r. ⌜ r ≡ packed (mapped placeNumber (anchorSearch (now (y .entry)) bits start q p s m k (now (a .entry)))) ⌝ }
 {
     let answer = ends::find_anchor(y, bits, start, q, p, s, m, k, a);
     packing::pack_place(answer)

@@ -2,10 +2,11 @@
 ghost use mathlib.Core.Path.{_≡_};
 ghost use mathlib.Core.List.{List};
 ghost use Prim.Native.Nat.{ℕ, _≤_};
-ghost use Rattle.codes.specs.Entries.{said, saidRepair, refusal};
+ghost use Rattle.codes.specs.Entries.{saidNumber, saidRepair};
 ghost use Rattle.ends.specs.AnchorSearch.{saidAnchor};
 ghost use Rattle.strings.specs.Refusals.{refusalNumber};
-ghost use Rattle.cabi.specs.Packing.{packed, numbered, outcomeNumber, placeNumber};
+ghost use Rattle.strings.specs.Results.{refusal, mapped};
+ghost use Rattle.cabi.specs.Packing.{packed, doneNumber, placeNumber};
 use codes::NumberAnswer;
 use codes::RepairAnswer;
 use ends::AnchorAnswer;
@@ -20,7 +21,7 @@ pub fn pack_refusal(e: Refusal) -> u64
 
 // A number or a refusal.
 pub fn pack_number(a: NumberAnswer) -> u64
-    ensures { λ r. ⌜ r ≡ packed (said a) ⌝ }
+    ensures { λ r. ⌜ r ≡ packed (saidNumber a) ⌝ }
 {
     match a {
         NumberAnswer::Value(v) => (v as u64) * 16,
@@ -30,7 +31,7 @@ pub fn pack_number(a: NumberAnswer) -> u64
 
 // Whether a repair was done, or a refusal.
 pub fn pack_repair(a: RepairAnswer) -> u64
-    ensures { λ r. ⌜ ((out : List ℕ) → r ≡ packed (numbered outcomeNumber (saidRepair a out .answer))) ⌝ }
+    ensures { λ r. ⌜ ((out : List ℕ) → r ≡ packed (mapped doneNumber (saidRepair a out .answer))) ⌝ }
 {
     match a {
         RepairAnswer::Done => 16,
@@ -41,8 +42,8 @@ pub fn pack_repair(a: RepairAnswer) -> u64
 
 // A place, none or a refusal. A place that the search gave is at most 65,536, so that the result fits; this is what it requires.
 pub fn pack_place(a: AnchorAnswer) -> u64
-    requires { ⌜ packed (numbered placeNumber (saidAnchor a)) ≤ 1048592 ⌝ }
-    ensures { λ r. ⌜ r ≡ packed (numbered placeNumber (saidAnchor a)) ⌝ }
+    requires { ⌜ packed (mapped placeNumber (saidAnchor a)) ≤ 1048592 ⌝ }
+    ensures { λ r. ⌜ r ≡ packed (mapped placeNumber (saidAnchor a)) ⌝ }
 {
     match a {
         AnchorAnswer::Placed(r) => ((r + 1) as u64) * 16,

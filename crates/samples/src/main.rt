@@ -51,7 +51,7 @@ fn print_rows(key: u32, count: u32) {
     let mut v = key;
     let mut i: u32 = 0;
     while i < count {
-        v = codes::step(v);
+        v = codes::xorshift(v);
         print_number(v as u64);
         i += 1;
     }

@@ -11,6 +11,7 @@ use lib.Dec.{leb, eqb}
 use Rattle.strings.specs.laws.PackLaws.{Bytes}
 use Rattle.strings.specs.StringRule.{stringRule}
 use Rattle.strings.specs.laws.RuleLaws.{rule-is}
+use Rattle.strings.specs.laws.ResultLaws.{unless-passed}
 use Rattle.strings.specs.laws.Tests.{by-test}
 use Rattle.strings.specs.declared.Refusal.the-variants.{BadSetting, BadString, OutOfTurn, BufferTooShort}
 use Rattle.strings.specs.declared.settings.Settings.{Settings}
@@ -25,9 +26,9 @@ use Rattle.ends.specs.laws.Counts.{before-most}
 use Rattle.ends.specs.laws.SoundLaws.{Ordered}
 use Rattle.ends.specs.laws.SoundParts.{Framed, sound-is, OpeningIs, opening-is, PiecesIs, pieces-is, WholeIs, whole-is}
 use Rattle.ends.specs.laws.SoundSteps.{fresh-sound}
-use Rattle.ends.specs.RebuilderCall.{starts, unlessStarted, rebuilderStart, freshRebuilder, takes, unlessTaken, Step, Rooms, rebuilderCall}
-use Rattle.ends.specs.laws.Asking.{unless-taken, call-sound}
-use Rattle.ends.specs.laws.Delivery.{unless-started, started-is}
+use Rattle.ends.specs.RebuilderCall.{starts, freshRebuilder, takes, Step, Rooms}
+use Rattle.ends.specs.laws.Asking.{call-sound}
+use Rattle.ends.specs.laws.Delivery.{started-is}
 use Rattle.layout.specs.Layout.{rebuilderSize, rebuilderBytes, rebuilderOf, isRebuilder}
 use Rattle.layout.specs.laws.LayoutLaws.{PieceFits, RebuilderFits, rebuilder-read, rebuilder-bytes-front, rebuilder-pieces}
 use Rattle.cabi.specs.Calls.{startOnBytes, rebuilderOnBytes}
@@ -128,9 +129,9 @@ pub start-carried : (S : Settings) (y : List ℕ) (bits stateRoom room : ℕ) (s
     → (isRebuilder (rebuilderBytes st ++ l) ≡ true) × (rebuilderOf (rebuilderBytes st ++ l) ≡ st)
 unfolding startOnBytes
 start-carried S y bits stateRoom room st m l e =
-    let t = unless-started (withinLimits S) BadSetting (unlessStarted (stringRule y bits) BadString (unlessStarted (leb rebuilderSize stateRoom) BufferTooShort (rebuilderStart S y bits room))) st m e in
-    let u = unless-started (stringRule y bits) BadString (unlessStarted (leb rebuilderSize stateRoom) BufferTooShort (rebuilderStart S y bits room)) st m (t .1) in
-    let v = unless-started (leb rebuilderSize stateRoom) BufferTooShort (rebuilderStart S y bits room) st m (u .1) in
+    let t = unless-passed (withinLimits S) BadSetting _ _ e in
+    let u = unless-passed (stringRule y bits) BadString _ _ (t .1) in
+    let v = unless-passed (leb rebuilderSize stateRoom) BufferTooShort _ _ (u .1) in
     let k = started-is S y bits room st m (v .1) in
     let f = fresh-sound S bits (k .limits) (rule-is y bits (k .string) .few) in
     (rebuilder-bytes-front st l, rebuilder-read st l (rw (k .state) (sound-fits (freshRebuilder S bits) (f .0) (f .1))))
@@ -139,7 +140,7 @@ pub call-carried : (s y : List ℕ) (bits : ℕ) (msg : List ℕ) (rooms : Rooms
     → (isRebuilder (rebuilderBytes (j .state) ++ l) ≡ true) × (rebuilderOf (rebuilderBytes (j .state) ++ l) ≡ j .state)
 unfolding rebuilderOnBytes
 call-carried s y bits msg rooms j m l b e =
-    let u = unless-taken (stringRule y bits) BadString (unlessTaken (isRebuilder s) OutOfTurn (rebuilderCall (rebuilderOf s) y bits msg rooms)) j m e in
-    let v = unless-taken (isRebuilder s) OutOfTurn (rebuilderCall (rebuilderOf s) y bits msg rooms) j m (u .1) in
+    let u = unless-passed (stringRule y bits) BadString _ _ e in
+    let v = unless-passed (isRebuilder s) OutOfTurn _ _ (u .1) in
     let f = call-sound (rebuilderOf s) y bits msg rooms j m (rebuilder-pieces s) b (v .1) in
     (rebuilder-bytes-front (j .state) l, rebuilder-read (j .state) l (sound-fits (j .state) (f .0) (f .1)))

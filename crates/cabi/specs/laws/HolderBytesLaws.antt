@@ -11,11 +11,12 @@ use Rattle.strings.specs.laws.PackLaws.{Bytes}
 use Rattle.strings.specs.laws.RangeLaws.{range-length}
 use Rattle.strings.specs.StringRule.{stringRule}
 use Rattle.strings.specs.Refusals.{refusalNumber}
+use Rattle.strings.specs.Results.{Result, refusal, value}
+use Rattle.strings.specs.laws.ResultLaws.{no-value, value-is, unless-passed}
 use Rattle.strings.specs.declared.Refusal.{Refusal}
 use Rattle.strings.specs.declared.Refusal.the-variants.{BadString, OutOfTurn}
 use Rattle.codes.specs.Syndrome.{syndrome}
 use Rattle.codes.specs.Hash.{hash}
-use Rattle.codes.specs.Entries.{refusal, value}
 use Rattle.messages.specs.declared.Question.{Question}
 use Rattle.messages.specs.declared.Question.the-variants.{AskOpen, AskHash, AskSyndrome, AskBits}
 use Rattle.messages.specs.laws.QuestionLaws.{keyOf, fields-form}
@@ -26,8 +27,8 @@ use Rattle.messages.specs.laws.AnswerLaws.{answer-size, size-answer-most, hash-
 use Rattle.ends.specs.declared.Holder.{Holder}
 use Rattle.ends.specs.Anchors.{part}
 use Rattle.ends.specs.Runs.{answer}
-use Rattle.ends.specs.HolderCall.{Heard, declines, replies, unlessHeard, holderCall, freshHolder}
-use Rattle.ends.specs.laws.HolderLaws.{unless-heard, heard-call, Made, opens, counts, heard-made, holder-sound}
+use Rattle.ends.specs.HolderCall.{Reply, replies, holderCall, freshHolder}
+use Rattle.ends.specs.laws.HolderLaws.{heard-call, Made, opens, counts, heard-made, holder-sound}
 use Rattle.ends.specs.declared.answering.HolderAnswer.the-variants.{Replied, Refused}
 use Rattle.ends.specs.declared.answering.HolderOut.{HolderOut}
 use Rattle.ends.specs.HolderOutcome.{HolderSaid, answerSaid, saidHolder, leavesHolder}
@@ -70,10 +71,10 @@ answer-most h key X (AskSyndrome x p) m =
     omega arith
 answer-most h key X (AskBits x p) m = let e = bits-answer-size (part X x p) in let k = part-most X x p in omega arith
 
-pub reply-most : (st : Holder) (x : List ℕ) (bits : ℕ) (msg : List ℕ) (room : ℕ) (next : Holder) (m : List ℕ)
-    → holderCall st x bits msg room ≡ replies next m → length m ≤ 65536
-reply-most st x bits msg room next m e =
-    let k = heard-call st x bits msg room next m e in
+pub reply-most : (st : Holder) (x : List ℕ) (bits : ℕ) (msg : List ℕ) (room : ℕ) (r : Reply)
+    → holderCall st x bits msg room ≡ value r → length (r .message) ≤ 65536
+reply-most st x bits msg room r e =
+    let k = heard-call st x bits msg room (r .state) (r .message) e in
     let l = range-length x 0 bits in
     let f = k .few in
     rw (k .sends) (answer-most (st .h) (st .key) (range x 0 bits) (k .q) (omega arith))
@@ -96,46 +97,46 @@ module _ (s x : List ℕ) (bits : ℕ) (msg reply : List ℕ) where
 
 -- what the call on the state says, as bytes
 module _ (s reply reply′ : List ℕ) (st : Holder) (out : HolderOut) where
-  holder-declined : (t : Heard) (e : Refusal) → saidHolder out reply′ ≡ leavesHolder st reply t → out .answer ≡ Refused e
+  holder-declined : (t : Result Reply) (e : Refusal) → saidHolder out reply′ ≡ leavesHolder st reply t → out .answer ≡ Refused e
       → record { result = packed (refusal (refusalNumber e)); state = s; reply = reply′ } ≡ holderLeft s reply t
-  holder-declined (declines d) e k f =
-      let a : answerSaid (out .answer) ≡ refusal (refusalNumber d) = ap (λ (w : HolderSaid). w .answer) k in
-      let b : refusal (refusalNumber e) ≡ refusal (refusalNumber d) = rw f at a in
+  holder-declined (refusal number) e k f =
+      let a : answerSaid (out .answer) ≡ refusal number = ap (λ (w : HolderSaid). w .answer) k in
+      let b : refusal (refusalNumber e) ≡ refusal number = rw f at a in
       let c : reply′ ≡ reply = ap (λ (w : HolderSaid). w .reply) k in
       rw (b, c) refl
-  holder-declined (replies next m) e k f =
-      let a : answerSaid (out .answer) ≡ value (length m) = ap (λ (w : HolderSaid). w .answer) k in
-      let b : refusal (refusalNumber e) ≡ value (length m) = rw f at a in
-      let z : _≡_ {A = ℕ} 0 1 = cc in absurd (omega arith)
+  holder-declined (value r) e k f =
+      let a : answerSaid (out .answer) ≡ value (length (r .message)) = ap (λ (w : HolderSaid). w .answer) k in
+      let b : refusal (refusalNumber e) ≡ value (length (r .message)) = rw f at a in
+      absurd (no-value (refusalNumber e) (length (r .message)) b)
 
-  holder-size : (t : Heard) (size : ℕ) → saidHolder out reply′ ≡ leavesHolder st reply t → out .answer ≡ Replied size
-      → ((next : Holder) (m : List ℕ) → t ≡ replies next m → length m ≤ 65536) → size ≤ 65536
-  holder-size (declines d) size k f h =
-      let a : answerSaid (out .answer) ≡ refusal (refusalNumber d) = ap (λ (w : HolderSaid). w .answer) k in
-      let b : value size ≡ refusal (refusalNumber d) = rw f at a in
-      let z : _≡_ {A = ℕ} 0 1 = cc in absurd (omega arith)
-  holder-size (replies next m) size k f h =
-      let a : answerSaid (out .answer) ≡ value (length m) = ap (λ (w : HolderSaid). w .answer) k in
-      let b : value size ≡ value (length m) = rw f at a in
-      let c : size ≡ length m = cc in
-      let i = h next m refl in omega arith
+  holder-size : (t : Result Reply) (size : ℕ) → saidHolder out reply′ ≡ leavesHolder st reply t → out .answer ≡ Replied size
+      → ((r : Reply) → t ≡ value r → length (r .message) ≤ 65536) → size ≤ 65536
+  holder-size (refusal number) size k f h =
+      let a : answerSaid (out .answer) ≡ refusal number = ap (λ (w : HolderSaid). w .answer) k in
+      let b : value size ≡ refusal number = rw f at a in
+      absurd (no-value number size (sym b))
+  holder-size (value r) size k f h =
+      let a : answerSaid (out .answer) ≡ value (length (r .message)) = ap (λ (w : HolderSaid). w .answer) k in
+      let b : value size ≡ value (length (r .message)) = rw f at a in
+      let c : size ≡ length (r .message) = value-is b in
+      let i = h r refl in omega arith
 
-  holder-replied : (t : Heard) (size : ℕ) (s′ : List ℕ) → saidHolder out reply′ ≡ leavesHolder st reply t → out .answer ≡ Replied size
+  holder-replied : (t : Result Reply) (size : ℕ) (s′ : List ℕ) → saidHolder out reply′ ≡ leavesHolder st reply t → out .answer ≡ Replied size
       → s′ ≡ holderBytes (out .state) ++ drop holderSize s
       → record { result = size * 16; state = s′; reply = reply′ } ≡ holderLeft s reply t
   unfolding packed
-  holder-replied (declines d) size s′ k f g =
-      let a : answerSaid (out .answer) ≡ refusal (refusalNumber d) = ap (λ (w : HolderSaid). w .answer) k in
-      let b : value size ≡ refusal (refusalNumber d) = rw f at a in
-      let z : _≡_ {A = ℕ} 0 1 = cc in absurd (omega arith)
-  holder-replied (replies next m) size s′ k f g =
-      let a : answerSaid (out .answer) ≡ value (length m) = ap (λ (w : HolderSaid). w .answer) k in
-      let b : value size ≡ value (length m) = rw f at a in
-      let c : size ≡ length m = cc in
-      let d : out .state ≡ next = ap (λ (w : HolderSaid). w .state) k in
-      let i : reply′ ≡ atFront m reply = ap (λ (w : HolderSaid). w .reply) k in
-      let j : s′ ≡ atFront (holderBytes next) s
-      = g ∙ ap (λ (z : Holder). holderBytes z ++ drop holderSize s) d ∙ ap (λ (n : ℕ). holderBytes next ++ drop n s) (sym (length-holder next)) in
+  holder-replied (refusal number) size s′ k f g =
+      let a : answerSaid (out .answer) ≡ refusal number = ap (λ (w : HolderSaid). w .answer) k in
+      let b : value size ≡ refusal number = rw f at a in
+      absurd (no-value number size (sym b))
+  holder-replied (value r) size s′ k f g =
+      let a : answerSaid (out .answer) ≡ value (length (r .message)) = ap (λ (w : HolderSaid). w .answer) k in
+      let b : value size ≡ value (length (r .message)) = rw f at a in
+      let c : size ≡ length (r .message) = value-is b in
+      let d : out .state ≡ r .state = ap (λ (w : HolderSaid). w .state) k in
+      let i : reply′ ≡ atFront (r .message) reply = ap (λ (w : HolderSaid). w .reply) k in
+      let j : s′ ≡ atFront (holderBytes (r .state)) s
+      = g ∙ ap (λ (z : Holder). holderBytes z ++ drop holderSize s) d ∙ ap (λ (n : ℕ). holderBytes (r .state) ++ drop n s) (sym (length-holder (r .state))) in
       rw (c, j, i) refl
 
 -- for the code: what is known where the call on the state that was read has answered
@@ -159,7 +160,7 @@ module _ (k : HolderCalled) where
   holderLeaves = holderLeft (k .s) (k .reply) (holderOnBytes (k .s) (k .x) (k .bits) (k .msg) (length (k .reply)))
 
   -- what the call on the state gives
-  abbrev heard : Heard
+  abbrev heard : Result Reply
   heard = holderCall (k .st) (k .x) (k .bits) (k .msg) (length (k .reply))
 
   called : holderLeft (k .s) (k .reply) heard ≡ holderLeaves
@@ -181,8 +182,8 @@ pub holder-carried : (s x : List ℕ) (bits : ℕ) (msg : List ℕ) (room : ℕ)
     → holderOnBytes s x bits msg room ≡ replies next m → (isHolder (holderBytes next ++ l) ≡ true) × (holderOf (holderBytes next ++ l) ≡ next)
 unfolding holderOnBytes
 holder-carried s x bits msg room next m l b c e =
-    let u = unless-heard (stringRule x bits) BadString (unlessHeard (isHolder s) OutOfTurn (holderCall (holderOf s) x bits msg room)) next m e in
-    let v = unless-heard (isHolder s) OutOfTurn (holderCall (holderOf s) x bits msg room) next m (u .1) in
+    let u = unless-passed (stringRule x bits) BadString _ _ e in
+    let v = unless-passed (isHolder s) OutOfTurn _ _ (u .1) in
     let o = holder-sound (holderOf s) x bits msg room next m (v .1) in
     let k = heard-call (holderOf s) x bits msg room next m (v .1) in
     let q = o .bits in

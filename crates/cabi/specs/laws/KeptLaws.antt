@@ -10,16 +10,13 @@ use lib.Dec.{leb}
 use borrow.Author.Tests.{leb-true}
 use Rattle.strings.specs.Bits.{atFront}
 use Rattle.strings.specs.StringRule.{stringRule}
+use Rattle.strings.specs.Results.{Result, refusal, value}
+use Rattle.strings.specs.laws.ResultLaws.{unless-passed}
 use Rattle.strings.specs.declared.Refusal.the-variants.{BadSetting, BadString, OutOfTurn, BufferTooShort}
 use Rattle.strings.specs.declared.settings.Settings.{Settings}
 use Rattle.strings.specs.SettingLimits.{withinLimits}
-use Rattle.ends.specs.declared.Holder.{Holder}
-use Rattle.ends.specs.declared.Rebuilder.{Rebuilder}
-use Rattle.ends.specs.HolderCall.{Heard, declines, replies, unlessHeard, holderCall, freshHolder}
-use Rattle.ends.specs.laws.HolderLaws.{unless-heard}
-use Rattle.ends.specs.RebuilderCall.{Started, startDeclines, starts, unlessStarted, rebuilderStart, Taken, refuses, takes, unlessTaken, Step, Rooms, rebuilderCall}
-use Rattle.ends.specs.laws.Asking.{unless-taken}
-use Rattle.ends.specs.laws.Delivery.{unless-started}
+use Rattle.ends.specs.HolderCall.{Reply, freshHolder}
+use Rattle.ends.specs.RebuilderCall.{Started, Taken, Rooms}
 use Rattle.layout.specs.Layout.{holderSize, holderBytes, holderOf, isHolder, rebuilderSize, rebuilderBytes, rebuilderOf, isRebuilder}
 use Rattle.layout.specs.laws.LayoutLaws.{length-holder, length-rebuilder, holder-long, rebuilder-long}
 use Rattle.cabi.specs.Calls.{holderMade, holderOnBytes, holderLeft, startOnBytes, startLeft, rebuilderOnBytes, roomsIn, rebuilderLeft}
@@ -48,48 +45,48 @@ made-kept s = go (leb holderSize (length s)) refl
     go false e = rw e (kept-same holderSize s)
 
 -- ---- the holder's call
-holder-room : (s x : List ℕ) (bits : ℕ) (msg : List ℕ) (room : ℕ) (next : Holder) (m : List ℕ) → holderOnBytes s x bits msg room ≡ replies next m → holderSize ≤ length s
+holder-room : (s x : List ℕ) (bits : ℕ) (msg : List ℕ) (room : ℕ) (r : Reply) → holderOnBytes s x bits msg room ≡ value r → holderSize ≤ length s
 unfolding holderOnBytes
-holder-room s x bits msg room next m e =
-    let u = unless-heard (stringRule x bits) BadString (unlessHeard (isHolder s) OutOfTurn (holderCall (holderOf s) x bits msg room)) next m e in
-    let v = unless-heard (isHolder s) OutOfTurn (holderCall (holderOf s) x bits msg room) next m (u .1) in
+holder-room s x bits msg room r e =
+    let u = unless-passed (stringRule x bits) BadString _ _ e in
+    let v = unless-passed (isHolder s) OutOfTurn _ _ (u .1) in
     holder-long s (v .0)
 
 pub answer-kept : (s x : List ℕ) (bits : ℕ) (msg reply : List ℕ) → Kept holderSize s (holderLeft s reply (holderOnBytes s x bits msg (length reply)) .state)
 answer-kept s x bits msg reply = go (holderOnBytes s x bits msg (length reply)) refl
   where
-    go : (t : Heard) → holderOnBytes s x bits msg (length reply) ≡ t → Kept holderSize s (holderLeft s reply t .state)
-    go (declines d) e = kept-same holderSize s
-    go (replies next m) e = front-kept holderSize s (holderBytes next) (length-holder next) (holder-room s x bits msg (length reply) next m e)
+    go : (t : Result Reply) → holderOnBytes s x bits msg (length reply) ≡ t → Kept holderSize s (holderLeft s reply t .state)
+    go (refusal number) e = kept-same holderSize s
+    go (value r) e = front-kept holderSize s (holderBytes (r .state)) (length-holder (r .state)) (holder-room s x bits msg (length reply) r e)
 
 -- ---- the rebuilder's start
-start-room : (S : Settings) (y : List ℕ) (bits stateRoom room : ℕ) (st : Rebuilder) (m : List ℕ) → startOnBytes S y bits stateRoom room ≡ starts st m → rebuilderSize ≤ stateRoom
+start-room : (S : Settings) (y : List ℕ) (bits stateRoom room : ℕ) (b : Started) → startOnBytes S y bits stateRoom room ≡ value b → rebuilderSize ≤ stateRoom
 unfolding startOnBytes
-start-room S y bits stateRoom room st m e =
-    let t = unless-started (withinLimits S) BadSetting (unlessStarted (stringRule y bits) BadString (unlessStarted (leb rebuilderSize stateRoom) BufferTooShort (rebuilderStart S y bits room))) st m e in
-    let u = unless-started (stringRule y bits) BadString (unlessStarted (leb rebuilderSize stateRoom) BufferTooShort (rebuilderStart S y bits room)) st m (t .1) in
-    let v = unless-started (leb rebuilderSize stateRoom) BufferTooShort (rebuilderStart S y bits room) st m (u .1) in
+start-room S y bits stateRoom room b e =
+    let t = unless-passed (withinLimits S) BadSetting _ _ e in
+    let u = unless-passed (stringRule y bits) BadString _ _ (t .1) in
+    let v = unless-passed (leb rebuilderSize stateRoom) BufferTooShort _ _ (u .1) in
     leb-true rebuilderSize stateRoom (v .0)
 
 pub start-kept : (S : Settings) (y : List ℕ) (bits : ℕ) (s question : List ℕ) → Kept rebuilderSize s (startLeft s question (startOnBytes S y bits (length s) (length question)) .state)
 start-kept S y bits s question = go (startOnBytes S y bits (length s) (length question)) refl
   where
-    go : (t : Started) → startOnBytes S y bits (length s) (length question) ≡ t → Kept rebuilderSize s (startLeft s question t .state)
-    go (startDeclines d) e = kept-same rebuilderSize s
-    go (starts st m) e = front-kept rebuilderSize s (rebuilderBytes st) (length-rebuilder st) (start-room S y bits (length s) (length question) st m e)
+    go : (t : Result Started) → startOnBytes S y bits (length s) (length question) ≡ t → Kept rebuilderSize s (startLeft s question t .state)
+    go (refusal number) e = kept-same rebuilderSize s
+    go (value b) e = front-kept rebuilderSize s (rebuilderBytes (b .state)) (length-rebuilder (b .state)) (start-room S y bits (length s) (length question) b e)
 
 -- ---- the rebuilder's call
-call-room : (s y : List ℕ) (bits : ℕ) (msg : List ℕ) (rooms : Rooms) (j : Step) (m : List ℕ) → rebuilderOnBytes s y bits msg rooms ≡ takes j m → rebuilderSize ≤ length s
+call-room : (s y : List ℕ) (bits : ℕ) (msg : List ℕ) (rooms : Rooms) (t : Taken) → rebuilderOnBytes s y bits msg rooms ≡ value t → rebuilderSize ≤ length s
 unfolding rebuilderOnBytes
-call-room s y bits msg rooms j m e =
-    let u = unless-taken (stringRule y bits) BadString (unlessTaken (isRebuilder s) OutOfTurn (rebuilderCall (rebuilderOf s) y bits msg rooms)) j m e in
-    let v = unless-taken (isRebuilder s) OutOfTurn (rebuilderCall (rebuilderOf s) y bits msg rooms) j m (u .1) in
+call-room s y bits msg rooms t e =
+    let u = unless-passed (stringRule y bits) BadString _ _ e in
+    let v = unless-passed (isRebuilder s) OutOfTurn _ _ (u .1) in
     rebuilder-long s (v .0)
 
 pub call-kept : (s y : List ℕ) (bits : ℕ) (msg string sheet question : List ℕ)
     → Kept rebuilderSize s (rebuilderLeft s string sheet question (rebuilderOnBytes s y bits msg (roomsIn string sheet question)) .state)
 call-kept s y bits msg string sheet question = go (rebuilderOnBytes s y bits msg (roomsIn string sheet question)) refl
   where
-    go : (t : Taken) → rebuilderOnBytes s y bits msg (roomsIn string sheet question) ≡ t → Kept rebuilderSize s (rebuilderLeft s string sheet question t .state)
-    go (refuses d) e = kept-same rebuilderSize s
-    go (takes j m) e = front-kept rebuilderSize s (rebuilderBytes (j .state)) (length-rebuilder (j .state)) (call-room s y bits msg (roomsIn string sheet question) j m e)
+    go : (t : Result Taken) → rebuilderOnBytes s y bits msg (roomsIn string sheet question) ≡ t → Kept rebuilderSize s (rebuilderLeft s string sheet question t .state)
+    go (refusal number) e = kept-same rebuilderSize s
+    go (value t) e = front-kept rebuilderSize s (rebuilderBytes (t .step .state)) (length-rebuilder (t .step .state)) (call-room s y bits msg (roomsIn string sheet question) t e)

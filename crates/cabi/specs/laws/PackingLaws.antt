@@ -4,14 +4,15 @@ use mathlib.Core.List.{List}
 use mathlib.Core.Option.{Option, none, some}
 use Prim.Native.Nat.{ℕ, _/_, _%_, _≤_, _<_}
 use native.Mathlib.Omega.{arith}
-use Rattle.codes.specs.Entries.{Answer, refusal, value, saidRepair}
+use Rattle.strings.specs.Results.{Result, refusal, value, mapped}
+use Rattle.codes.specs.Entries.{saidRepair}
 use Rattle.codes.specs.declared.entries.RepairAnswer.{RepairAnswer}
 use Rattle.codes.specs.declared.entries.RepairAnswer.the-variants.{Done, Nothing, Refused}
 use Rattle.ends.specs.AnchorSearch.{anchorSearch, saidAnchor}
 use Rattle.ends.specs.code.AnchorSearchLaws.{AnswerMost, search-most}
 use Rattle.ends.specs.declared.anchors.AnchorAnswer.{AnchorAnswer}
 use Rattle.ends.specs.declared.anchors.AnchorAnswer.the-variants.{Placed}
-use Rattle.cabi.specs.Packing.{packed, numbered, placeNumber}
+use Rattle.cabi.specs.Packing.{packed, placeNumber}
 
 -- ---- the host's side: the low four bits are the refusal, the rest is the value
 pub refusal-read : (e : ℕ) → e < 16 → packed (refusal e) % 16 ≡ e
@@ -27,17 +28,17 @@ unfolding packed
 value-read v = omega arith
 
 -- ---- a place is at most 65,536, so that it fits
-answer-fits : (x : Answer (Option ℕ)) → AnswerMost x → packed (numbered placeNumber x) ≤ 1048592
+answer-fits : (x : Result (Option ℕ)) → AnswerMost x → packed (mapped placeNumber x) ≤ 1048592
 unfolding packed
 answer-fits (refusal e) h = omega arith
 answer-fits (value none) h = omega arith
 answer-fits (value (some r)) h = omega arith
 
-pub place-fits : (y : List ℕ) (bits start q p s m k : ℕ) (a : List ℕ) → packed (numbered placeNumber (anchorSearch y bits start q p s m k a)) ≤ 1048592
+pub place-fits : (y : List ℕ) (bits start q p s m k : ℕ) (a : List ℕ) → packed (mapped placeNumber (anchorSearch y bits start q p s m k a)) ≤ 1048592
 place-fits y bits start q p s m k a = answer-fits (anchorSearch y bits start q p s m k a) (search-most y bits start q p s m k a)
 
 -- ---- for the code
-pub place-small : (a : AnchorAnswer) (r : ℕ) → packed (numbered placeNumber (saidAnchor a)) ≤ 1048592 → a ≡ Placed r → r ≤ 65536
+pub place-small : (a : AnchorAnswer) (r : ℕ) → packed (mapped placeNumber (saidAnchor a)) ≤ 1048592 → a ≡ Placed r → r ≤ 65536
 unfolding packed
 place-small a r h e = let g = rw e at h in omega arith
 

@@ -10,8 +10,9 @@ use borrow.Author.Tests.{le-leb, lt-leb}
 use Rattle.strings.specs.Bits.{atFront}
 use Rattle.strings.specs.StringRule.{stringRule}
 use Rattle.strings.specs.Refusals.{refusalNumber}
+use Rattle.strings.specs.Results.{Result, refusal, value}
+use Rattle.strings.specs.laws.ResultLaws.{no-value, value-is}
 use Rattle.strings.specs.declared.Refusal.{Refusal}
-use Rattle.codes.specs.Entries.{refusal, value}
 use Rattle.messages.specs.declared.Question.{Question}
 use Rattle.messages.specs.declared.Question.the-variants.{AskOpen, AskHash, AskSyndrome, AskBits}
 use Rattle.messages.specs.Numbers.{number}
@@ -24,7 +25,7 @@ use Rattle.strings.specs.declared.settings.Settings.{Settings}
 use Rattle.ends.specs.declared.Rebuilder.{Rebuilder}
 use Rattle.strings.specs.SettingLimits.{withinLimits}
 use Rattle.ends.specs.States.{planned}
-use Rattle.ends.specs.RebuilderCall.{Started, startDeclines, starts, rebuilderStart, Taken, refuses, takes, Step, Rooms, rebuilderCall, writtenQuestion, stepOf, stringAfter, rowsNeeded}
+use Rattle.ends.specs.RebuilderCall.{Started, rebuilderStart, Taken, Rooms, rebuilderCall, writtenQuestion, stepOf, stringAfter, rowsNeeded}
 use Rattle.ends.specs.laws.Asking.{TakenCall, taken-call}
 use Rattle.ends.specs.laws.Delivery.{started-is}
 use Rattle.ends.specs.declared.rebuilding.StartAnswer.the-variants.{Begun, NotBegun}
@@ -62,9 +63,9 @@ written-most none = omega arith
 written-most (some q) = question-most q
 
 -- as the one that a taken call writes
-pub taken-small : (st : Rebuilder) (y : List ℕ) (bits : ℕ) (msg : List ℕ) (rooms : Rooms) (step : Step) (next : List ℕ) → rebuilderCall st y bits msg rooms ≡ takes step next → length next ≤ 16
-taken-small st y bits msg rooms step next e =
-    let k : TakenCall st y msg rooms step next = taken-call st y bits msg rooms step next e in
+pub taken-small : (st : Rebuilder) (y : List ℕ) (bits : ℕ) (msg : List ℕ) (rooms : Rooms) (t : Taken) → rebuilderCall st y bits msg rooms ≡ value t → length (t .question) ≤ 16
+taken-small st y bits msg rooms t e =
+    let k : TakenCall st y msg rooms (t .step) (t .question) = taken-call st y bits msg rooms (t .step) (t .question) e in
     rw (k .asks) (written-most (planned (stepOf st y (length msg) (k .a) .state)))
 
 -- ---- the returns of the call
@@ -103,50 +104,49 @@ front s st next e = ap (λ (z : Rebuilder). rebuilderBytes z ++ drop rebuilderSi
 
 -- what the call on the state says, as bytes
 module _ (s string sheet question string′ question′ : List ℕ) (st : Rebuilder) (out : RebuilderOut) where
-  said-declined : (t : Taken) (e : Refusal) → saidRebuilder out string′ question′ ≡ leavesRebuilder st string question t → out .answer ≡ Refused e
+  said-declined : (t : Result Taken) (e : Refusal) → saidRebuilder out string′ question′ ≡ leavesRebuilder st string question t → out .answer ≡ Refused e
       → record { result = packed (refusal (refusalNumber e)); state = s; string = string′; sheet = sheet; question = question′ } ≡ rebuilderLeft s string sheet question t
-  said-declined (refuses d) e k f =
-      let a : callSaid (out .answer) ≡ refusal (refusalNumber d) = ap (λ (w : RebuilderSaid). w .answer) k in
+  said-declined (refusal number) e k f =
+      let a : callSaid (out .answer) ≡ refusal number = ap (λ (w : RebuilderSaid). w .answer) k in
       let i : callSaid (out .answer) ≡ refusal (refusalNumber e) = ap callSaid f in
-      let b : refusalNumber e ≡ refusalNumber d = cc in
+      let b : refusalNumber e ≡ number = cc in
       let c : string′ ≡ string = ap (λ (w : RebuilderSaid). w .string) k in
       let g : question′ ≡ question = ap (λ (w : RebuilderSaid). w .question) k in
       rw (b, c, g) refl
-  said-declined (takes j m) e k f =
-      let a : callSaid (out .answer) ≡ value (nextSize m) = ap (λ (w : RebuilderSaid). w .answer) k in
+  said-declined (value t) e k f =
+      let a : callSaid (out .answer) ≡ value (nextSize (t .question)) = ap (λ (w : RebuilderSaid). w .answer) k in
       let i : callSaid (out .answer) ≡ refusal (refusalNumber e) = ap callSaid f in
-      let z : _≡_ {A = ℕ} 0 1 = cc in absurd (omega arith)
+      absurd (no-value (refusalNumber e) (nextSize (t .question)) (sym i ∙ a))
 
   -- n is the length of the next question, if there is one
   module _ (n : Option ℕ) (said : callSaid (out .answer) ≡ value n) where
-    said-size : (j : Step) (m : List ℕ) → saidRebuilder out string′ question′ ≡ leavesRebuilder st string question (takes j m) → askedSize n ≡ length m
-    said-size j m k =
-        let a : callSaid (out .answer) ≡ value (nextSize m) = ap (λ (w : RebuilderSaid). w .answer) k in
-        let b : n ≡ nextSize m = cc in
-        ap askedSize b ∙ next-size m
+    said-size : (t : Taken) → saidRebuilder out string′ question′ ≡ leavesRebuilder st string question (value t) → askedSize n ≡ length (t .question)
+    said-size t k =
+        let a : callSaid (out .answer) ≡ value (nextSize (t .question)) = ap (λ (w : RebuilderSaid). w .answer) k in
+        ap askedSize (value-is (sym said ∙ a)) ∙ next-size (t .question)
 
-    said-taken : (t : Taken) (s′ sheet′ : List ℕ) → saidRebuilder out string′ question′ ≡ leavesRebuilder st string question t
+    said-taken : (t : Result Taken) (s′ sheet′ : List ℕ) → saidRebuilder out string′ question′ ≡ leavesRebuilder st string question t
         → s′ ≡ rebuilderBytes (out .state) ++ drop rebuilderSize s → sheet′ ≡ sheetBytesAfter sheet (out .sheet)
         → record { result = askedSize n * 16; state = s′; string = string′; sheet = sheet′; question = question′ } ≡ rebuilderLeft s string sheet question t
     unfolding packed
-    said-taken (refuses d) s′ sheet′ k g h =
-        let a : callSaid (out .answer) ≡ refusal (refusalNumber d) = ap (λ (w : RebuilderSaid). w .answer) k in
-        let z : _≡_ {A = ℕ} 0 1 = cc in absurd (omega arith)
-    said-taken (takes j m) s′ sheet′ k g h =
-        let a = said-size j m k in
-        let b : out .state ≡ j .state = ap (λ (w : RebuilderSaid). w .state) k in
-        let c : out .sheet ≡ j .sheet = ap (λ (w : RebuilderSaid). w .sheet) k in
-        let d : string′ ≡ stringAfter string (j .string) = ap (λ (w : RebuilderSaid). w .string) k in
-        let f : question′ ≡ atFront m question = ap (λ (w : RebuilderSaid). w .question) k in
-        let i : s′ ≡ atFront (rebuilderBytes (j .state)) s = g ∙ front s (out .state) (j .state) b in
+    said-taken (refusal number) s′ sheet′ k g h =
+        let a : callSaid (out .answer) ≡ refusal number = ap (λ (w : RebuilderSaid). w .answer) k in
+        absurd (no-value number n (sym a ∙ said))
+    said-taken (value t) s′ sheet′ k g h =
+        let a = said-size t k in
+        let b : out .state ≡ t .step .state = ap (λ (w : RebuilderSaid). w .state) k in
+        let c : out .sheet ≡ t .step .sheet = ap (λ (w : RebuilderSaid). w .sheet) k in
+        let d : string′ ≡ stringAfter string (t .step .string) = ap (λ (w : RebuilderSaid). w .string) k in
+        let f : question′ ≡ atFront (t .question) question = ap (λ (w : RebuilderSaid). w .question) k in
+        let i : s′ ≡ atFront (rebuilderBytes (t .step .state)) s = g ∙ front s (out .state) (t .step .state) b in
         rw (a, i, h, c, d, f) refl
 
-    said-small : (t : Taken) → saidRebuilder out string′ question′ ≡ leavesRebuilder st string question t
-        → ((j : Step) (m : List ℕ) → t ≡ takes j m → length m ≤ 16) → askedSize n ≤ 16
-    said-small (refuses d) k h =
-        let a : callSaid (out .answer) ≡ refusal (refusalNumber d) = ap (λ (w : RebuilderSaid). w .answer) k in
-        let z : _≡_ {A = ℕ} 0 1 = cc in absurd (omega arith)
-    said-small (takes j m) k h = let a = said-size j m k in let i = h j m refl in omega arith
+    said-small : (t : Result Taken) → saidRebuilder out string′ question′ ≡ leavesRebuilder st string question t
+        → ((v : Taken) → t ≡ value v → length (v .question) ≤ 16) → askedSize n ≤ 16
+    said-small (refusal number) k h =
+        let a : callSaid (out .answer) ≡ refusal number = ap (λ (w : RebuilderSaid). w .answer) k in
+        absurd (no-value number n (sym a ∙ said))
+    said-small (value t) k h = let a = said-size t k in let i = h t refl in omega arith
 
 -- for the code: what is known where the call on the state that was read has answered
 pub record RebuilderCalled : Type 0 where
@@ -174,7 +174,7 @@ module _ (k : RebuilderCalled) where
   calledLeaves = callLeaves (k .s) (k .y) (k .bits) (k .msg) (k .string) (k .sheet) (k .question)
 
   -- what the call on the state gives
-  abbrev heard : Taken
+  abbrev heard : Result Taken
   heard = rebuilderCall (k .st) (k .y) (k .bits) (k .msg) rooms
 
   pub call-rows : rowSize * rowsNeeded (k .out .sheet) ≤ length (k .sheet)
@@ -224,47 +224,47 @@ module _ (S : Settings) (y : List ℕ) (bits : ℕ) (s question : List ℕ) wher
     started h = rw (e, f, le-leb rebuilderSize (length s) h) refl
 
 module _ (s question question′ : List ℕ) (out : StartOut) where
-  start-declines : (t : Started) (e : Refusal) → saidStart out question′ ≡ leavesStart question t → out .answer ≡ NotBegun e
+  start-declines : (t : Result Started) (e : Refusal) → saidStart out question′ ≡ leavesStart question t → out .answer ≡ NotBegun e
       → record { result = packed (refusal (refusalNumber e)); state = s; question = question′ } ≡ startLeft s question t
-  start-declines (startDeclines d) e k f =
-      let a : startSaid (out .answer) ≡ refusal (refusalNumber d) = ap (λ (w : StartSaid). w .answer) k in
+  start-declines (refusal number) e k f =
+      let a : startSaid (out .answer) ≡ refusal number = ap (λ (w : StartSaid). w .answer) k in
       let i : startSaid (out .answer) ≡ refusal (refusalNumber e) = ap startSaid f in
-      let b : refusalNumber e ≡ refusalNumber d = cc in
+      let b : refusalNumber e ≡ number = cc in
       let g : question′ ≡ question = ap (λ (w : StartSaid). w .question) k in
       rw (b, g) refl
-  start-declines (starts st m) e k f =
-      let a : startSaid (out .answer) ≡ value (length m) = ap (λ (w : StartSaid). w .answer) k in
+  start-declines (value b) e k f =
+      let a : startSaid (out .answer) ≡ value (length (b .question)) = ap (λ (w : StartSaid). w .answer) k in
       let i : startSaid (out .answer) ≡ refusal (refusalNumber e) = ap startSaid f in
-      let z : _≡_ {A = ℕ} 0 1 = cc in absurd (omega arith)
+      absurd (no-value (refusalNumber e) (length (b .question)) (sym i ∙ a))
 
-  start-begins : (t : Started) (size : ℕ) (s′ : List ℕ) → saidStart out question′ ≡ leavesStart question t → out .answer ≡ Begun size
+  start-begins : (t : Result Started) (size : ℕ) (s′ : List ℕ) → saidStart out question′ ≡ leavesStart question t → out .answer ≡ Begun size
       → s′ ≡ rebuilderBytes (out .state) ++ drop rebuilderSize s
       → record { result = size * 16; state = s′; question = question′ } ≡ startLeft s question t
   unfolding packed
-  start-begins (startDeclines d) size s′ k f g =
-      let a : startSaid (out .answer) ≡ refusal (refusalNumber d) = ap (λ (w : StartSaid). w .answer) k in
+  start-begins (refusal number) size s′ k f g =
+      let a : startSaid (out .answer) ≡ refusal number = ap (λ (w : StartSaid). w .answer) k in
       let i : startSaid (out .answer) ≡ value size = ap startSaid f in
-      let z : _≡_ {A = ℕ} 0 1 = cc in absurd (omega arith)
-  start-begins (starts st m) size s′ k f g =
-      let a : startSaid (out .answer) ≡ value (length m) = ap (λ (w : StartSaid). w .answer) k in
+      absurd (no-value number size (sym a ∙ i))
+  start-begins (value v) size s′ k f g =
+      let a : startSaid (out .answer) ≡ value (length (v .question)) = ap (λ (w : StartSaid). w .answer) k in
       let j : startSaid (out .answer) ≡ value size = ap startSaid f in
-      let b : size ≡ length m = cc in
-      let c : out .state ≡ st = ap (λ (w : StartSaid). w .state) k in
-      let d : question′ ≡ atFront m question = ap (λ (w : StartSaid). w .question) k in
-      let h : s′ ≡ atFront (rebuilderBytes st) s = g ∙ front s (out .state) st c in
+      let b : size ≡ length (v .question) = value-is (sym j ∙ a) in
+      let c : out .state ≡ v .state = ap (λ (w : StartSaid). w .state) k in
+      let d : question′ ≡ atFront (v .question) question = ap (λ (w : StartSaid). w .question) k in
+      let h : s′ ≡ atFront (rebuilderBytes (v .state)) s = g ∙ front s (out .state) (v .state) c in
       rw (b, h, d) refl
 
-  start-size : (t : Started) (size : ℕ) → saidStart out question′ ≡ leavesStart question t → out .answer ≡ Begun size
-      → ((st : Rebuilder) (m : List ℕ) → t ≡ starts st m → length m ≤ 16) → size ≤ 16
-  start-size (startDeclines d) size k f h =
-      let a : startSaid (out .answer) ≡ refusal (refusalNumber d) = ap (λ (w : StartSaid). w .answer) k in
+  start-size : (t : Result Started) (size : ℕ) → saidStart out question′ ≡ leavesStart question t → out .answer ≡ Begun size
+      → ((v : Started) → t ≡ value v → length (v .question) ≤ 16) → size ≤ 16
+  start-size (refusal number) size k f h =
+      let a : startSaid (out .answer) ≡ refusal number = ap (λ (w : StartSaid). w .answer) k in
       let i : startSaid (out .answer) ≡ value size = ap startSaid f in
-      let z : _≡_ {A = ℕ} 0 1 = cc in absurd (omega arith)
-  start-size (starts st m) size k f h =
-      let a : startSaid (out .answer) ≡ value (length m) = ap (λ (w : StartSaid). w .answer) k in
+      absurd (no-value number size (sym a ∙ i))
+  start-size (value v) size k f h =
+      let a : startSaid (out .answer) ≡ value (length (v .question)) = ap (λ (w : StartSaid). w .answer) k in
       let j : startSaid (out .answer) ≡ value size = ap startSaid f in
-      let b : size ≡ length m = cc in
-      let i = h st m refl in omega arith
+      let b : size ≡ length (v .question) = value-is (sym j ∙ a) in
+      let i = h v refl in omega arith
 
 -- for the code: what is known where the start has answered; the settings were given as a struct
 pub record StartCalled : Type 0 where
@@ -284,7 +284,7 @@ pub record StartCalled : Type 0 where
 
 module _ (k : StartCalled) where
   -- what the start gives
-  abbrev began : Started
+  abbrev began : Result Started
   began = rebuilderStart (k .S) (k .y) (k .bits) (length (k .question))
 
   said-began : saidStart (k .out) (k .question′) ≡ leavesStart (k .question) began
@@ -293,7 +293,7 @@ module _ (k : StartCalled) where
   pub start-small : {size : ℕ} → k .out .answer ≡ Begun size → size ≤ 16
   start-small {size} a =
       start-size (k .s) (k .question) (k .question′) (k .out) began size said-began a
-      (λ st m t. rw (started-is (k .S) (k .y) (k .bits) (length (k .question)) st m t .question) (question-most (AskOpen (k .S .h) (k .S .key))))
+      (λ v t. rw (started-is (k .S) (k .y) (k .bits) (length (k .question)) (v .state) (v .question) t .question) (question-most (AskOpen (k .S .h) (k .S .key))))
 
   abbrev pub startLeaves : StartLeft
   startLeaves = startLeft (k .s) (k .question) (startOnBytes (k .S) (k .y) (k .bits) (length (k .s)) (length (k .question)))
