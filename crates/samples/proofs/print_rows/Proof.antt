@@ -13,8 +13,8 @@ abbrev μ-loop : tie.MeasureT-loop
 loop-holds : tie.Need-loop-holds Inv-loop μ-loop
 loop-holds c = search needs
 
-step-requires : tie.Need-step-requires Inv-loop μ-loop
-step-requires c κs = search needs
+xorshift-requires : tie.Need-xorshift-requires Inv-loop μ-loop
+xorshift-requires c κs = search needs
 
 cast-print-number : tie.Need-cast-print-number Inv-loop μ-loop
 cast-print-number c = search needs
@@ -47,7 +47,7 @@ print-rows-spec =
     Inv-loop
     μ-loop
     loop-holds
-    step-requires
+    xorshift-requires
     cast-print-number
     print-number-requires
     add-i
