@@ -65,6 +65,7 @@ fn finish(s: Rebuilder, change: SheetChange, question: &mut [u8]) -> RebuilderOu
     match state::plan_next(s) {
         Plan::Finished => give(RebuilderAnswer::Finished, s, change),
         Plan::Ask(q) => match messages::write_question(q, question) {
+            // Never: no question is longer than the 8 bytes that are required here.
             WriteResult::TooShort => give(RebuilderAnswer::Finished, s, change),
             WriteResult::Written(size) => give(RebuilderAnswer::Asks(size), s, change),
         },

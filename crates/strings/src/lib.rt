@@ -4,7 +4,7 @@ ghost use mathlib.Core.Path.{_≡_};
 ghost use mathlib.Core.Bool.{true, false};
 ghost use Prim.Native.Nat.{_+_, _*_, _≤_, _<_};
 ghost use lib.ListN.{length};
-ghost use Rattle.strings.specs.Bits.{bitAt, range, setBit, writeBits, sameBits, cleared, Part, Eight};
+ghost use Rattle.strings.specs.Bits.{bitAt, range, setBit, writeBits, cleared, Part, Eight};
 ghost use Rattle.strings.specs.StringRule.{stringRule};
 ghost use Rattle.strings.specs.Refusals.{refusalNumber};
 
@@ -161,20 +161,4 @@ pub fn clear_bytes(s: &mut [u8], at: usize, count: usize)
         s[at + i] = 0;
         i += 1;
     }
-}
-
-// Whether two ranges of len bits are equal; the comparison ends at the first bit that differs.
-pub fn same_bits(a: &[u8], i: usize, b: &[u8], j: usize, len: usize) -> bool
-    requires { ⌜ Part (now a) i len ⌝ }
-    requires { ⌜ Part (now b) j len ⌝ }
-    ensures { λ r. ⌜ r ≡ sameBits (range (now (a .entry)) i len) (range (now (b .entry)) j len) ⌝ }
-{
-    let mut k: usize = 0;
-    while k < len {
-        if get_bit(a, i + k) != get_bit(b, j + k) {
-            return false;
-        }
-        k += 1;
-    }
-    true
 }

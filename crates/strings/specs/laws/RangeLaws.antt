@@ -1,6 +1,6 @@
 -- Laws of ranges of bits.
 use mathlib.Core.Path.{_≡_, refl, sym, ap, ap₂, _∙_}
-use mathlib.Core.Bool.{Bool, true, false, cond, not, Bool·beq}
+use mathlib.Core.Bool.{Bool, true, false}
 use mathlib.Core.List.{List, [], _∷_, _++_}
 use Prim.Native.Nat.{ℕ, zero, suc, _+_, _-_, _*_, _≤_, _<_}
 use native.Mathlib.Nat.{zero-add, suc-add, add-zero, add-suc}
@@ -8,7 +8,7 @@ use native.Mathlib.Numerals.{add-one}
 use native.Mathlib.Omega.{arith}
 use lib.ListN.{take, drop, length, getD}
 use lib.Seq.{take-at, drop-at}
-use Rattle.strings.specs.Bits.{bitAt, range, sameBits, differs}
+use Rattle.strings.specs.Bits.{bitAt, range, sameBits}
 use Rattle.strings.specs.laws.Tests.{true-false}
 use Rattle.strings.specs.laws.BitLaws.{bit-behind}
 
@@ -108,24 +108,3 @@ same-is (true ∷ l) (true ∷ m) e = ap (λ (x : List Bool). true ∷ x) (same-
 same-is (true ∷ l) (false ∷ m) e = absurd (true-false (sym e))
 same-is (false ∷ l) (true ∷ m) e = absurd (true-false (sym e))
 same-is (false ∷ l) (false ∷ m) e = ap (λ (x : List Bool). false ∷ x) (same-is l m e)
-
-pub same-next : (l l′ m m′ : List Bool) (a b : Bool) → l ≡ a ∷ l′ → m ≡ b ∷ m′ → sameBits l m ≡ cond (differs a b) false (sameBits l′ m′)
-unfolding sameBits
-same-next l l′ m m′ a b e f = rw (e, f) refl
-
-pub same-none : (l m : List Bool) → l ≡ [] → m ≡ [] → sameBits l m ≡ true
-unfolding sameBits
-same-none l m e f = rw (e, f) refl
-
-unequal : (x y : Bool) → not (Bool·beq x y) ≡ differs x y
-unequal true true = refl
-unequal true false = refl
-unequal false true = refl
-unequal false false = refl
-
--- a turn of a loop that compares the bits x and y
-module _ (a b : List ℕ) (i j len k : ℕ) (x y t : Bool) (h : k < len) (e : x ≡ bitAt a (i + k)) (f : y ≡ bitAt b (j + k)) (g : not (Bool·beq x y) ≡ t) where
-  pub same-turn : sameBits (rest a i len k) (rest b j len k) ≡ cond t false (sameBits (rest a i len (k + 1)) (rest b j len (k + 1)))
-  same-turn =
-      same-next (rest a i len k) (rest a i len (k + 1)) (rest b j len k) (rest b j len (k + 1)) x y (rest-is a i len k x x h e refl) (rest-is b j len k y y h f refl)
-      ∙ ap (λ (u : Bool). cond u false (sameBits (rest a i len (k + 1)) (rest b j len (k + 1)))) (sym (unequal x y) ∙ g)
