@@ -12,7 +12,7 @@ use Rattle.strings.specs.declared.Refusal.the-variants.{BadSetting, BadString, 
 use Rattle.strings.specs.declared.settings.Settings.{Settings}
 use Rattle.strings.specs.SettingLimits.{withinLimits}
 use Rattle.ends.specs.HolderCall.{Reply, holderCall, freshHolder}
-use Rattle.ends.specs.RebuilderCall.{Started, rebuilderStart, Taken, Rooms, rebuilderCall, stringAfter}
+use Rattle.ends.specs.RebuilderCall.{Started, rebuilderStart, Taken, Capacities, rebuilderCall, stringAfter}
 use Rattle.layout.specs.Layout.{holderSize, holderBytes, holderOf, isHolder, rebuilderSize, rebuilderBytes, rebuilderOf, isRebuilder}
 use Rattle.layout.specs.Sheet.{rowSize, sheetBytesAfter}
 use Rattle.cabi.specs.Packing.{packed}
@@ -28,12 +28,12 @@ holderMade s = cond (leb holderSize (length s))
     (record { result = packed (refusal 9); state = s })
 
 -- ---- the holder's call
--- with the bytes s of its state, the bytes x of X, their bit count, a message and a reply buffer of room bytes: bytes that no state has get 3, after 2
-unfoldable pub holderOnBytes : (s x : List ℕ) (bits : ℕ) (msg : List ℕ) (room : ℕ) → Result Reply
-holderOnBytes s x bits msg room =
+-- with the bytes s of its state, the bytes x of X, their bit count, a message and a reply buffer of capacity bytes: bytes that no state has get 3, after 2
+unfoldable pub holderOnBytes : (s x : List ℕ) (bits : ℕ) (msg : List ℕ) (capacity : ℕ) → Result Reply
+holderOnBytes s x bits msg capacity =
     unless (stringRule x bits) BadString (
     unless (isHolder s) OutOfTurn (
-    holderCall (holderOf s) x bits msg room))
+    holderCall (holderOf s) x bits msg capacity))
 
 pub record HolderLeft : Type 0 where
   pub result : ℕ
@@ -45,14 +45,18 @@ abbrev pub holderLeft : (s reply : List ℕ) → Result Reply → HolderLeft
 holderLeft s reply (refusal number) = record { result = packed (refusal number); state = s; reply = reply }
 holderLeft s reply (value r) = record { result = packed (value (length (r .message))); state = atFront (holderBytes (r .state)) s; reply = atFront (r .message) reply }
 
+-- the call with the bytes of its state, of X, of the message and of the reply buffer
+abbrev pub holderBytesOutcome : (s x : List ℕ) (bits : ℕ) (msg reply : List ℕ) → HolderLeft
+holderBytesOutcome s x bits msg reply = holderLeft s reply (holderOnBytes s x bits msg (length reply))
+
 -- ---- the rebuilder's start
 -- fewer bytes than a state's get 9, after 1 and 2
-unfoldable pub startOnBytes : Settings → (y : List ℕ) (bits : ℕ) (stateRoom room : ℕ) → Result Started
-startOnBytes S y bits stateRoom room =
+unfoldable pub startOnBytes : Settings → (y : List ℕ) (bits : ℕ) (stateCapacity capacity : ℕ) → Result Started
+startOnBytes S y bits stateCapacity capacity =
     unless (withinLimits S) BadSetting (
     unless (stringRule y bits) BadString (
-    unless (leb rebuilderSize stateRoom) BufferTooShort (
-    rebuilderStart S y bits room)))
+    unless (leb rebuilderSize stateCapacity) BufferTooShort (
+    rebuilderStart S y bits capacity)))
 
 pub record StartLeft : Type 0 where
   pub result : ℕ
@@ -64,17 +68,21 @@ abbrev pub startLeft : (s question : List ℕ) → Result Started → StartLeft
 startLeft s question (refusal number) = record { result = packed (refusal number); state = s; question = question }
 startLeft s question (value b) = record { result = packed (value (length (b .question))); state = atFront (rebuilderBytes (b .state)) s; question = atFront (b .question) question }
 
+-- the start with settings, the bytes y of Y and their bit count, and the bytes of state and question buffer
+abbrev pub startBytesOutcome : Settings → (y : List ℕ) (bits : ℕ) (s question : List ℕ) → StartLeft
+startBytesOutcome S y bits s question = startLeft s question (startOnBytes S y bits (length s) (length question))
+
 -- ---- the rebuilder's call
 -- with the bytes s of its state, the bytes y of Y, their bit count and a message: bytes that no state has get 3, after 2
-unfoldable pub rebuilderOnBytes : (s y : List ℕ) (bits : ℕ) (msg : List ℕ) → Rooms → Result Taken
-rebuilderOnBytes s y bits msg rooms =
+unfoldable pub rebuilderOnBytes : (s y : List ℕ) (bits : ℕ) (msg : List ℕ) → Capacities → Result Taken
+rebuilderOnBytes s y bits msg capacities =
     unless (stringRule y bits) BadString (
     unless (isRebuilder s) OutOfTurn (
-    rebuilderCall (rebuilderOf s) y bits msg rooms))
+    rebuilderCall (rebuilderOf s) y bits msg capacities))
 
--- the room in lent bytes; that of the sheet in rows
-abbrev pub roomsIn : (string sheet question : List ℕ) → Rooms
-roomsIn string sheet question = record { string = length string; sheet = length sheet / rowSize; question = length question }
+-- the capacity in lent bytes; that of the sheet in rows
+abbrev pub capacitiesIn : (string sheet question : List ℕ) → Capacities
+capacitiesIn string sheet question = record { string = length string; sheet = length sheet / rowSize; question = length question }
 
 pub record RebuilderLeft : Type 0 where
   pub result : ℕ
@@ -94,3 +102,8 @@ rebuilderLeft s string sheet question (value t) = record {
   sheet = sheetBytesAfter sheet (t .step .sheet);
   question = atFront (t .question) question;
 }
+
+-- the call with the bytes of its state, of Y, of the message, of string and sheet, and of the question buffer
+abbrev pub rebuilderBytesOutcome : (s y : List ℕ) (bits : ℕ) (msg string sheet question : List ℕ) → RebuilderLeft
+rebuilderBytesOutcome s y bits msg string sheet question =
+    rebuilderLeft s string sheet question (rebuilderOnBytes s y bits msg (capacitiesIn string sheet question))

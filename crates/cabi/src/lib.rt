@@ -6,12 +6,12 @@ ghost use mathlib.Core.Path.{_≡_};
 ghost use mathlib.Core.List.{_++_};
 ghost use Prim.Native.Nat.{_*_, _≤_};
 ghost use lib.ListN.{length, drop};
-ghost use Rattle.codes.specs.Entries.{syndromeCall, hashCall, repairCall, repairLeft};
+ghost use Rattle.codes.specs.Entries.{syndromeCall, hashCall, repairOutcome};
 ghost use Rattle.strings.specs.Results.{mapped};
 ghost use Rattle.ends.specs.RebuilderCall.{rowsNeeded};
 ghost use Rattle.ends.specs.AnchorSearch.{anchorSearch};
 ghost use Rattle.cabi.specs.Packing.{packed, doneNumber, placeNumber};
-ghost use Rattle.cabi.specs.Calls.{holderMade, holderOnBytes, holderLeft, startOnBytes, startLeft, rebuilderOnBytes, rebuilderLeft, roomsIn};
+ghost use Rattle.cabi.specs.Calls.{holderMade, holderBytesOutcome, startBytesOutcome, rebuilderBytesOutcome};
 ghost use Rattle.layout.specs.Layout.{rebuilderSize, rebuilderBytes};
 ghost use Rattle.layout.specs.Sheet.{rowSize, sheetBytesAfter};
 use ends::HolderAnswer;
@@ -45,8 +45,8 @@ pub extern "C" fn lo_hash(s: &[u8], bits: usize, h: u32, key: u32) -> u64
 // The repair of a string to one of n bits with the syndrome a: 1 where it is done, 0 where there is none.
 #[no_mangle]
 pub extern "C" fn lo_repair(s: &[u8], bits: usize, n: usize, a: usize, out: &mut [u8]) -> u64
-    ensures { λ r. ⌜ r ≡ packed (mapped doneNumber (repairLeft (now (out .entry)) (repairCall (now (s .entry)) bits n a (length (now (out .entry)))) .answer)) ⌝ }
-    ensures { λ r. ⌜ now (out .exit) ≡ repairLeft (now (out .entry)) (repairCall (now (s .entry)) bits n a (length (now (out .entry)))) .buffer ⌝ }
+    ensures { λ r. ⌜ r ≡ packed (mapped doneNumber (repairOutcome (now (s .entry)) bits n a (now (out .entry)) .answer)) ⌝ }
+    ensures { λ r. ⌜ now (out .exit) ≡ repairOutcome (now (s .entry)) bits n a (now (out .entry)) .buffer ⌝ }
 {
     let answer = codes::repair(s, bits, n, a, out);
     packing::pack_repair(answer)
@@ -76,8 +76,8 @@ pub extern "C" fn lo_anchor(
 pub extern "C" fn lo_holder_fresh(state: &mut [u8]) -> u64
     ensures { λ r. ⌜ record { result = r; state = now (state .exit) } ≡ holderMade (now (state .entry)) ⌝ }
 {
-    let room = state.len();
-    if room < HOLDER_BYTES {
+    let capacity = state.len();
+    if capacity < HOLDER_BYTES {
         return 9;
     }
     let fresh = ends::fresh_holder();
@@ -94,7 +94,8 @@ pub extern "C" fn lo_holder_answer(
     msg: &[u8],
     reply: &mut [u8],
 ) -> u64
-    ensures { λ r. ⌜ record { result = r; state = now (state .exit); reply = now (reply .exit) } ≡ holderLeft (now (state .entry)) (now (reply .entry)) (holderOnBytes (now (state .entry)) (now (x .entry)) bits (now (msg .entry)) (length (now (reply .entry)))) ⌝ }
+    ensures { λ r. ⌜ record { result = r; state = now (state .exit); reply = now (reply .exit) }
+        ≡ holderBytesOutcome (now (state .entry)) (now (x .entry)) bits (now (msg .entry)) (now (reply .entry)) ⌝ }
 {
     if !strings::keeps_string_rule(x, bits) {
         return 2;
@@ -127,7 +128,8 @@ pub extern "C" fn lo_rebuilder_start(
     state: &mut [u8],
     question: &mut [u8],
 ) -> u64
-    ensures { λ r. ⌜ record { result = r; state = now (state .exit); question = now (question .exit) } ≡ startLeft (now (state .entry)) (now (question .entry)) (startOnBytes (record { m = m; h = h; k = k; key = key; ceiling = ceiling }) (now (y .entry)) bits (length (now (state .entry))) (length (now (question .entry)))) ⌝ }
+    ensures { λ r. ⌜ record { result = r; state = now (state .exit); question = now (question .exit) }
+        ≡ startBytesOutcome (record { m = m; h = h; k = k; key = key; ceiling = ceiling }) (now (y .entry)) bits (now (state .entry)) (now (question .entry)) ⌝ }
 {
     let s = Settings::new(m, h, k, key, ceiling);
     if !s.is_within_limits() {
@@ -136,8 +138,8 @@ pub extern "C" fn lo_rebuilder_start(
     if !strings::keeps_string_rule(y, bits) {
         return 2;
     }
-    let room = state.len();
-    if room < REBUILDER_BYTES {
+    let capacity = state.len();
+    if capacity < REBUILDER_BYTES {
         return 9;
     }
     let out = ends::rebuilder_start(s, y, bits, question);
@@ -176,7 +178,14 @@ pub extern "C" fn lo_rebuilder_call(
     msg: &[u8],
     question: &mut [u8],
 ) -> u64
-    ensures { λ r. ⌜ record { result = r; state = now (state .exit); string = now (string .exit); sheet = now (sheet .exit); question = now (question .exit) } ≡ rebuilderLeft (now (state .entry)) (now (string .entry)) (now (sheet .entry)) (now (question .entry)) (rebuilderOnBytes (now (state .entry)) (now (y .entry)) bits (now (msg .entry)) (roomsIn (now (string .entry)) (now (sheet .entry)) (now (question .entry)))) ⌝ }
+    ensures { λ r. ⌜ record {
+      result = r;
+      state = now (state .exit);
+      string = now (string .exit);
+      sheet = now (sheet .exit);
+      question = now (question .exit);
+    }
+        ≡ rebuilderBytesOutcome (now (state .entry)) (now (y .entry)) bits (now (msg .entry)) (now (string .entry)) (now (sheet .entry)) (now (question .entry)) ⌝ }
 {
     if !strings::keeps_string_rule(y, bits) {
         return 2;

@@ -2,7 +2,7 @@
 ghost use mathlib.Core.Path.{_≡_};
 ghost use mathlib.Core.List.{List};
 ghost use Prim.Native.Nat.{ℕ, _≤_};
-ghost use Rattle.codes.specs.Entries.{saidNumber, saidRepair};
+ghost use Rattle.codes.specs.Entries.{saidValue, saidRepair};
 ghost use Rattle.ends.specs.AnchorSearch.{saidAnchor};
 ghost use Rattle.strings.specs.Refusals.{refusalNumber};
 ghost use Rattle.strings.specs.Results.{refusal, mapped};
@@ -21,7 +21,7 @@ pub fn pack_refusal(e: Refusal) -> u64
 
 // A number or a refusal.
 pub fn pack_number(a: NumberAnswer) -> u64
-    ensures { λ r. ⌜ r ≡ packed (saidNumber a) ⌝ }
+    ensures { λ r. ⌜ r ≡ packed (saidValue a) ⌝ }
 {
     match a {
         NumberAnswer::Value(v) => (v as u64) * 16,

@@ -3,6 +3,7 @@ use mathlib.Core.Bool.{Bool, true, false, _&&_, _||_}
 use mathlib.Core.List.{List}
 use mathlib.Core.Option.{Option, none, some}
 use Prim.Native.Nat.{ℕ, _+_}
+use lib.ListN.{length}
 use lib.Dec.{eqb, leb}
 use Rattle.strings.specs.Bits.{maxBits, range, bytesFor, pack, atFront}
 use Rattle.strings.specs.StringRule.{stringRule}
@@ -34,20 +35,20 @@ hashCall s bits h key =
     value (hash h key (range s 0 bits))))
 
 -- what the code's answer says of a number
-abbrev pub saidNumber : NumberAnswer → Result ℕ
-saidNumber (Value v) = value v
-saidNumber (Refused e) = refusal (refusalNumber e)
+abbrev pub saidValue : NumberAnswer → Result ℕ
+saidValue (Value v) = value v
+saidValue (Refused e) = refusal (refusalNumber e)
 
--- ---- the repair of a string of `bits` bits to one of n bits that has the syndrome a, where the buffer has `room` bytes
+-- ---- the repair of a string of `bits` bits to one of n bits that has the syndrome a, where the buffer has `capacity` bytes
 -- lengths one apart, a result that is no longer than a string, a from 0 to n
 unfoldable pub repairRange : (bits n a : ℕ) → Bool
 repairRange bits n a = (eqb (bits + 1) n || eqb bits (n + 1)) && (leb n maxBits && leb a n)
 
-unfoldable pub repairCall : List ℕ → (bits n a room : ℕ) → Result (Option (List Bool))
-repairCall s bits n a room =
+unfoldable pub repairCall : List ℕ → (bits n a capacity : ℕ) → Result (Option (List Bool))
+repairCall s bits n a capacity =
     unless (stringRule s bits) BadString (
     unless (repairRange bits n a) OutOfRange (
-    unless (leb (bytesFor n) room) BufferTooShort (
+    unless (leb (bytesFor n) capacity) BufferTooShort (
     value (repairTo n a (range s 0 bits)))))
 
 -- what the call answers, true for done and false for none, and what the buffer holds after it
@@ -60,6 +61,10 @@ abbrev pub repairLeft : List ℕ → Result (Option (List Bool)) → RepairLeft
 repairLeft out (refusal number) = record { answer = refusal number; buffer = out }
 repairLeft out (value none) = record { answer = value false; buffer = out }
 repairLeft out (value (some x)) = record { answer = value true; buffer = atFront (pack x) out }
+
+-- the call with the bytes s of a string, its bit count, n, a and the bytes of the buffer
+abbrev pub repairOutcome : List ℕ → (bits n a : ℕ) → List ℕ → RepairLeft
+repairOutcome s bits n a out = repairLeft out (repairCall s bits n a (length out))
 
 -- what the code's answer says, and the buffer
 abbrev pub saidRepair : RepairAnswer → List ℕ → RepairLeft

@@ -3,7 +3,7 @@ ghost use mathlib.Core.Path.{_≡_};
 ghost use Prim.Native.Nat.{_≤_};
 ghost use lib.ListN.{length};
 ghost use Rattle.strings.specs.Bits.{maxBits};
-ghost use Rattle.codes.specs.Entries.{saidNumber, saidRepair, repairLeft, syndromeCall, hashCall, repairCall, repairRange, hashSettings};
+ghost use Rattle.codes.specs.Entries.{saidValue, saidRepair, repairOutcome, syndromeCall, hashCall, repairRange, hashSettings};
 use crate::edits::Repair;
 use strings::Refusal;
 
@@ -24,7 +24,7 @@ pub enum RepairAnswer {
 
 // The syndrome of a string.
 pub fn syndrome(s: &[u8], bits: usize) -> NumberAnswer
-    ensures { λ r. ⌜ saidNumber r ≡ syndromeCall (now (s .entry)) bits ⌝ }
+    ensures { λ r. ⌜ saidValue r ≡ syndromeCall (now (s .entry)) bits ⌝ }
 {
     if !strings::keeps_string_rule(s, bits) {
         return NumberAnswer::Refused(Refusal::BadString);
@@ -45,7 +45,7 @@ fn keeps_hash_settings(h: u32, key: u32) -> bool
 
 // The hash of a string.
 pub fn hash(s: &[u8], bits: usize, h: u32, key: u32) -> NumberAnswer
-    ensures { λ r. ⌜ saidNumber r ≡ hashCall (now (s .entry)) bits h key ⌝ }
+    ensures { λ r. ⌜ saidValue r ≡ hashCall (now (s .entry)) bits h key ⌝ }
 {
     if !keeps_hash_settings(h, key) {
         return NumberAnswer::Refused(Refusal::BadSetting);
@@ -75,7 +75,7 @@ fn keeps_repair_range(bits: usize, n: usize, a: usize) -> bool
 
 // The repair of a string of `bits` bits to one of n bits, one more or one less, that has the syndrome a.
 pub fn repair(s: &[u8], bits: usize, n: usize, a: usize, out: &mut [u8]) -> RepairAnswer
-    ensures { λ r. ⌜ saidRepair r (now (out .exit)) ≡ repairLeft (now (out .entry)) (repairCall (now (s .entry)) bits n a (length (now (out .entry)))) ⌝ }
+    ensures { λ r. ⌜ saidRepair r (now (out .exit)) ≡ repairOutcome (now (s .entry)) bits n a (now (out .entry)) ⌝ }
 {
     if !strings::keeps_string_rule(s, bits) {
         return RepairAnswer::Refused(Refusal::BadString);

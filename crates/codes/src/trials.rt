@@ -25,7 +25,8 @@ pub fn try_copy(
     requires { ⌜ Part (now s) start len ⌝ }
     requires { ⌜ Part (now to) at len ⌝ }
     requires { ⌜ h ≤ 32 ⌝ }
-    ensures { λ r. ⌜ record { settled = r; buffer = now (to .exit) } ≡ triedAt (now (to .entry)) at (agreeing h key v (some (range (now (s .entry)) start len))) ⌝ }
+    ensures { λ r. ⌜ record { settled = r; buffer = now (to .exit) }
+        ≡ triedAt (now (to .entry)) at (agreeing h key v (some (range (now (s .entry)) start len))) ⌝ }
 {
     let g = crate::rows::hash_of(s, start, len, key, h);
     if g != v {
@@ -51,7 +52,8 @@ fn try_edit(
     requires { ⌜ Fits e len ⌝ }
     requires { ⌜ Part (now to) at (length (edited e (range (now s) start len))) ⌝ }
     requires { ⌜ h ≤ 32 ⌝ }
-    ensures { λ r. ⌜ record { settled = r; buffer = now (to .exit) } ≡ triedAt (now (to .entry)) at (agreeing h key v (some (edited e (range (now (s .entry)) start len)))) ⌝ }
+    ensures { λ r. ⌜ record { settled = r; buffer = now (to .exit) }
+        ≡ triedAt (now (to .entry)) at (agreeing h key v (some (edited e (range (now (s .entry)) start len)))) ⌝ }
 {
     let hashed = crate::edits::hash_edited(s, start, len, e, key, h);
     if hashed != v {
@@ -78,7 +80,8 @@ pub fn try_repair(
     requires { ⌜ Part (now to) at n ⌝ }
     requires { ⌜ OneApart len n ⌝ }
     requires { ⌜ h ≤ 32 ⌝ }
-    ensures { λ r. ⌜ record { settled = r; buffer = now (to .exit) } ≡ triedAt (now (to .entry)) at (agreeing h key v (repairTo n a (range (now (s .entry)) start len))) ⌝ }
+    ensures { λ r. ⌜ record { settled = r; buffer = now (to .exit) }
+        ≡ triedAt (now (to .entry)) at (agreeing h key v (repairTo n a (range (now (s .entry)) start len))) ⌝ }
 {
     match crate::places::find_repair(s, start, len, n, a) {
         Repair::Nothing => false,

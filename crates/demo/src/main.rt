@@ -17,6 +17,9 @@ use lines::StringRead;
 use strings::Refusal;
 use strings::Settings;
 
+// A string's most bits, as a number of a state.
+const MOST_BITS: u32 = strings::MAX_BITS as u32;
+
 // How far the run is: a question of so many bytes waits for its answer, X is rebuilt, or a call was turned down.
 enum Progress {
     Asking(usize),
@@ -85,7 +88,7 @@ fn print_rows(sheet: [Row; 16385], used: u32) {
 // The last line of a finished run; the opening is not among its questions. Neither refusal can happen: the rebuilder's state at the
 // finish has at most 65,536 bits and counts the opening among its answers.
 fn print_last(string: &[u8; 8192], st: Rebuilder) {
-    if 65536 < st.n {
+    if MOST_BITS < st.n {
         return print_refusal(Refusal::BufferTooShort);
     }
     if st.answered == 0 {
@@ -312,7 +315,7 @@ fn run(settings: Settings, x: &[u8], xbits: usize, y: &[u8], ybits: usize) {
 fn byte_count(bits: usize) -> usize
     ensures { λ r. ⌜ r ≤ 8192 ⌝ }
 {
-    if 65536 < bits {
+    if strings::MAX_BITS < bits {
         return 8192;
     }
     (bits + 7) / 8

@@ -63,7 +63,7 @@ At x [] y s = ⊥
 At x (u ∷ r) y s = ((x ≡ y) × (u ≡ s)) ⊎ At (x + span u) r y s
 
 -- bit i lies in a settled piece that differs from the reference's, though it agrees with it as Settled says
-pub record Slip (S : Settings) (X : List Bool) (x : ℕ) (segs : List Segment) (i : ℕ) : Type 0 where
+pub record Collision (S : Settings) (X : List Bool) (x : ℕ) (segs : List Segment) (i : ℕ) : Type 0 where
   pub start : ℕ
   pub how : How
   pub copy : List Bool
@@ -77,7 +77,7 @@ pub record Slip (S : Settings) (X : List Bool) (x : ℕ) (segs : List Segment) (
 -- at the finish: as many bits as X; each is X's, or lies in a piece as above; the rows cover each exactly once
 pub record Finished (S : Settings) (X : List Bool) (s : Run) : Type 0 where
   pub size : length (string (piecesOf s)) ≡ length X
-  pub bits : (i : ℕ) → i < length X → (getD (string (piecesOf s)) i false ≡ getD X i false) ⊎ Slip S X 0 (piecesOf s) i
+  pub bits : (i : ℕ) → i < length X → (getD (string (piecesOf s)) i false ≡ getD X i false) ⊎ Collision S X 0 (piecesOf s) i
   pub rows : (i : ℕ) → i < length X → rowSum (covers i) (sheetOf s) ≡ 1
 
 -- ---- the lent sheet

@@ -49,20 +49,20 @@ afterAnswer st bits (AskHash x p) = record { opened = st .opened; bits = st .bit
 afterAnswer st bits (AskSyndrome x p) = record { opened = st .opened; bits = st .bits; h = st .h; key = st .key; answers = st .answers + 1 }
 afterAnswer st bits (AskBits x p) = record { opened = st .opened; bits = st .bits; h = st .h; key = st .key; answers = st .answers + 1 }
 
--- a message for which there is room
+-- a message for which there is capacity
 unfoldable pub sends : ℕ → Holder → List ℕ → Result Reply
-sends room next m = unless (leb (length m) room) BufferTooShort (replies next m)
+sends capacity next m = unless (leb (length m) capacity) BufferTooShort (replies next m)
 
-abbrev pub answersTo : Holder → List ℕ → (bits room : ℕ) → Question → Result Reply
-answersTo st x bits room q = sends room (afterAnswer st bits q) (answerBytes (answer (st .h) (st .key) (range x 0 bits) q))
+abbrev pub answersTo : Holder → List ℕ → (bits capacity : ℕ) → Question → Result Reply
+answersTo st x bits capacity q = sends capacity (afterAnswer st bits q) (answerBytes (answer (st .h) (st .key) (range x 0 bits) q))
 
 -- a message of the kind k, whose fields begin at position at
-abbrev pub ofKind : Holder → List ℕ → (bits : ℕ) → List ℕ → (room : ℕ) → (k : Kind) (at : ℕ) → Result Reply
-ofKind st x bits msg room k at = unless (inTurn (st .opened) k) OutOfTurn (andThen (fieldsAt k msg at bits) (answersTo st x bits room))
+abbrev pub ofKind : Holder → List ℕ → (bits : ℕ) → List ℕ → (capacity : ℕ) → (k : Kind) (at : ℕ) → Result Reply
+ofKind st x bits msg capacity k at = unless (inTurn (st .opened) k) OutOfTurn (andThen (fieldsAt k msg at bits) (answersTo st x bits capacity))
 
--- the call on the bytes x of X, its bit count, a message and a reply buffer of room bytes: 2; 3; then the message, with 3 for a known kind out of turn; 9
-unfoldable pub holderCall : Holder → (x : List ℕ) (bits : ℕ) (msg : List ℕ) (room : ℕ) → Result Reply
-holderCall st x bits msg room =
+-- the call on the bytes x of X, its bit count, a message and a reply buffer of capacity bytes: 2; 3; then the message, with 3 for a known kind out of turn; 9
+unfoldable pub holderCall : Holder → (x : List ℕ) (bits : ℕ) (msg : List ℕ) (capacity : ℕ) → Result Reply
+holderCall st x bits msg capacity =
     unless (stringRule x bits && sameBitCount st bits) BadString (
     unless (holderSound st && ltb (st .answers) mostAnswers) OutOfTurn (
-    andThen (kindAt msg) (λ (k, at). ofKind st x bits msg room k at)))
+    andThen (kindAt msg) (λ (k, at). ofKind st x bits msg capacity k at)))

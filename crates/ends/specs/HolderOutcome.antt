@@ -6,7 +6,7 @@ use Rattle.strings.specs.Bits.{atFront}
 use Rattle.strings.specs.Refusals.{refusalNumber}
 use Rattle.strings.specs.Results.{Result, refusal, value}
 use Rattle.ends.specs.declared.Holder.{Holder}
-use Rattle.ends.specs.HolderCall.{Reply}
+use Rattle.ends.specs.HolderCall.{Reply, holderCall}
 use Rattle.ends.specs.declared.answering.HolderAnswer.{HolderAnswer}
 use Rattle.ends.specs.declared.answering.HolderAnswer.the-variants.{Replied, Refused}
 use Rattle.ends.specs.declared.answering.HolderOut.{HolderOut}
@@ -29,3 +29,7 @@ saidHolder r reply = record { answer = answerSaid (r .answer); state = r .state;
 abbrev pub leavesHolder : Holder → List ℕ → Result Reply → HolderSaid
 leavesHolder st reply (refusal number) = record { answer = refusal number; state = st; reply = reply }
 leavesHolder st reply (value r) = record { answer = value (length (r .message)); state = r .state; reply = atFront (r .message) reply }
+
+-- the call on the bytes x of X, their bit count, a message and the bytes of the reply buffer
+abbrev pub holderOutcome : Holder → (x : List ℕ) (bits : ℕ) (msg reply : List ℕ) → HolderSaid
+holderOutcome st x bits msg reply = leavesHolder st reply (holderCall st x bits msg (length reply))

@@ -52,12 +52,12 @@ pub record Started : Type 0 where
 abbrev pub starts : Rebuilder → List ℕ → Result Started
 starts st q = value (record { state = st; question = q })
 
--- with settings, the bytes y of Y and their bit count, and a question buffer of room bytes: 1, 2, 9
-unfoldable pub rebuilderStart : Settings → (y : List ℕ) (bits room : ℕ) → Result Started
-rebuilderStart S y bits room =
+-- with settings, the bytes y of Y and their bit count, and a question buffer of capacity bytes: 1, 2, 9
+unfoldable pub rebuilderStart : Settings → (y : List ℕ) (bits capacity : ℕ) → Result Started
+rebuilderStart S y bits capacity =
     unless (withinLimits S) BadSetting (
     unless (stringRule y bits) BadString (
-    unless (leb 8 room) BufferTooShort (
+    unless (leb 8 capacity) BufferTooShort (
     starts (freshRebuilder S bits) (questionBytes (AskOpen (S .h) (S .key))))))
 
 -- ---- what an answer makes of state, string and sheet
@@ -198,14 +198,14 @@ questionLength (AskSyndrome x p) = p
 questionLength (AskBits x p) = p
 
 -- lent bytes of the string buffer and the question buffer, and rows of the sheet
-pub record Rooms : Type 0 where
+pub record Capacities : Type 0 where
   pub string : ℕ
   pub sheet : ℕ
   pub question : ℕ
 
 -- enough for n bits: n is the opening's answer, or known since
-abbrev pub roomFor : Rebuilder → ℕ → Rooms → Bool
-roomFor st n rooms = leb (bytesFor n) (rooms .string) && (leb (2 * (n / st .settings .m) + 1) (rooms .sheet) && leb 8 (rooms .question))
+abbrev pub enoughFor : Rebuilder → ℕ → Capacities → Bool
+enoughFor st n capacities = leb (bytesFor n) (capacities .string) && (leb (2 * (n / st .settings .m) + 1) (capacities .sheet) && leb 8 (capacities .question))
 
 abbrev pub bitsKnownAt : Phase → Rebuilder → Answer → ℕ
 bitsKnownAt AtOpening st a = theSize a
@@ -215,19 +215,19 @@ bitsKnownAt AtWhole st a = st .n
 abbrev pub bitsKnown : Rebuilder → Answer → ℕ
 bitsKnown st a = bitsKnownAt (st .phase) st a
 
-abbrev pub given : Rebuilder → (y msg : List ℕ) → Rooms → Answer → Result Taken
-given st y msg rooms a =
-    unless (roomFor st (bitsKnown st a) rooms) BufferTooShort (
+abbrev pub given : Rebuilder → (y msg : List ℕ) → Capacities → Answer → Result Taken
+given st y msg capacities a =
+    unless (enoughFor st (bitsKnown st a) capacities) BufferTooShort (
     takes (stepOf st y (length msg) a) (writtenQuestion (planned (stepOf st y (length msg) a .state))))
 
 -- finished: out of turn
-abbrev pub awaits : Rebuilder → (y msg : List ℕ) → Rooms → Option Question → Result Taken
-awaits st y msg rooms none = refusal (refusalNumber OutOfTurn)
-awaits st y msg rooms (some q) = andThen (readAnswer (questionKind q) (questionLength q) (st .settings .h) msg) (given st y msg rooms)
+abbrev pub awaits : Rebuilder → (y msg : List ℕ) → Capacities → Option Question → Result Taken
+awaits st y msg capacities none = refusal (refusalNumber OutOfTurn)
+awaits st y msg capacities (some q) = andThen (readAnswer (questionKind q) (questionLength q) (st .settings .h) msg) (given st y msg capacities)
 
 -- with the bytes y of Y, their bit count and a message: 2; 3; then the message; 9
-unfoldable pub rebuilderCall : Rebuilder → (y : List ℕ) (bits : ℕ) (msg : List ℕ) → Rooms → Result Taken
-rebuilderCall st y bits msg rooms =
+unfoldable pub rebuilderCall : Rebuilder → (y : List ℕ) (bits : ℕ) (msg : List ℕ) → Capacities → Result Taken
+rebuilderCall st y bits msg capacities =
     unless (stringRule y bits && eqb (st .ybits) bits) BadString (
     unless (sound st) OutOfTurn (
-    awaits st y msg rooms (planned st)))
+    awaits st y msg capacities (planned st)))

@@ -8,7 +8,8 @@ use Rattle.ends.specs.declared.Stage.the-variants.{Hashing}
 use Rattle.ends.specs.declared.SheetChange.{SheetChange}
 use Rattle.ends.specs.declared.SheetChange.the-variants.{NoRow}
 use Rattle.ends.specs.States.{noPiece}
-use Rattle.ends.specs.RebuilderCall.{Taken, stringAfter, Rooms, Started}
+use Rattle.strings.specs.declared.settings.Settings.{Settings}
+use Rattle.ends.specs.RebuilderCall.{Taken, stringAfter, Capacities, Started, rebuilderStart, rebuilderCall}
 use Rattle.ends.specs.declared.rebuilding.StartAnswer.{StartAnswer}
 use Rattle.ends.specs.declared.rebuilding.StartAnswer.the-variants.{Begun, NotBegun}
 use Rattle.ends.specs.declared.rebuilding.StartOut.{StartOut}
@@ -54,6 +55,10 @@ abbrev pub leavesStart : List ℕ → Result Started → StartSaid
 leavesStart q (refusal number) = record { answer = refusal number; state = noRebuilder; question = q }
 leavesStart q (value b) = record { answer = value (length (b .question)); state = b .state; question = atFront (b .question) q }
 
+-- the start with settings, the bytes y of Y and their bit count, and the bytes of the question buffer
+abbrev pub startOutcome : Settings → (y : List ℕ) (bits : ℕ) (question : List ℕ) → StartSaid
+startOutcome S y bits question = leavesStart question (rebuilderStart S y bits (length question))
+
 -- ---- the call
 -- what the code's answer says: the length of the next question, none at the finish, or 01's number of the refusal
 abbrev pub callSaid : RebuilderAnswer → Result (Option ℕ)
@@ -92,6 +97,11 @@ leavesRebuilder st s q (value t) = record {
   question = atFront (t .question) q;
 }
 
--- the lent room of a call: bytes of string and question buffer, rows of the sheet
-abbrev pub rooms : (string sheet question : ℕ) → Rooms
-rooms s r q = record { string = s; sheet = r; question = q }
+-- the lengths that a call is lent: bytes of string and question buffer, rows of the sheet
+abbrev pub capacities : (string sheet question : ℕ) → Capacities
+capacities s r q = record { string = s; sheet = r; question = q }
+
+-- the call with the bytes y of Y, their bit count, a message, so many lent rows, and the bytes of string and question buffer
+abbrev pub rebuilderOutcome : Rebuilder → (y : List ℕ) (bits : ℕ) (msg : List ℕ) (rows : ℕ) (string question : List ℕ) → RebuilderSaid
+rebuilderOutcome st y bits msg rows string question =
+    leavesRebuilder st string question (rebuilderCall st y bits msg (capacities (length string) rows (length question)))

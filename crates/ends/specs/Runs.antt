@@ -25,8 +25,8 @@ answer h key X (AskSyndrome x p) = syndromeAnswer (syndrome (part X x p)) (hash 
 answer h key X (AskBits x p) = bitsAnswer (part X x p)
 
 -- the holder's answer under the rebuilder's own opening
-abbrev pub told : Settings → List Bool → Question → Answer
-told S X q = answer (S .h) (S .key) X q
+abbrev pub honestAnswer : Settings → List Bool → Question → Answer
+honestAnswer S X q = answer (S .h) (S .key) X q
 
 -- an answer's bytes, as the count takes them
 unfoldable pub sizeOf : Answer → ℕ
@@ -66,7 +66,7 @@ run S Y (a ∷ l) = advance S Y (run S Y l) a
 -- each answer is the holder's to the question that then waited, under the rebuilder's own opening
 abbrev pub Honest : Settings → (X Y : List Bool) → List Answer → Type 0
 Honest S X Y [] = Unit {0}
-Honest S X Y (a ∷ l) = Honest S X Y l × ((q : Question) × (question S (run S Y l) ≡ some q) × (a ≡ told S X q))
+Honest S X Y (a ∷ l) = Honest S X Y l × ((q : Question) × (question S (run S Y l) ≡ some q) × (a ≡ honestAnswer S X q))
 
 -- ---- what a run has
 abbrev pub piecesOf : Run → List Segment

@@ -13,8 +13,8 @@ use Rattle.strings.specs.Results.{Result, refusal, value}
 use Rattle.ends.specs.Anchors.{part}
 use Rattle.ends.specs.Claims.{isWait, At, Finished, Settled, total, rowsAtFront, zeroed}
 use Rattle.ends.specs.HolderCall.{Reply, freshHolder, holderCall, replies}
-use Rattle.ends.specs.RebuilderCall.{Rooms, Step, Taken, rebuilderCall, rebuilderStart, sheetAfter, starts, stringAfter, takes, writtenQuestion}
-use Rattle.ends.specs.Runs.{Honest, Run, copies, piecesOf, question, run, sheetOf, string, told, full}
+use Rattle.ends.specs.RebuilderCall.{Capacities, Step, Taken, rebuilderCall, rebuilderStart, sheetAfter, starts, stringAfter, takes, writtenQuestion}
+use Rattle.ends.specs.Runs.{Honest, Run, copies, piecesOf, question, run, sheetOf, string, honestAnswer, full}
 use Rattle.ends.specs.Segments.{asks, settled, waiting}
 use Rattle.ends.specs.declared.Holder.{Holder}
 use Rattle.ends.specs.declared.How.{How}
@@ -37,8 +37,8 @@ pub record Lent : Type 0 where
   pub xbits : ℕ
   pub y : List ℕ
   pub ybits : ℕ
-  pub replyRoom : ℕ
-  pub questionRoom : ℕ
+  pub replyCapacity : ℕ
+  pub questionCapacity : ℕ
 
 -- both states, the string buffer and the sheet, the question last written (empty: none waits), and the messages that each end took, the last one first
 pub data World : Type 0 where
@@ -54,12 +54,12 @@ afterTaken (world H r bs sh q hs ts) m (refusal number) = world H r bs sh q hs t
 afterTaken (world H r bs sh q hs ts) m (value t) =
     world H (t .step .state) (stringAfter bs (t .step .string)) (sheetAfter sh (t .step .sheet)) (t .question) hs (m ∷ ts)
 
-abbrev pub roomsOf : Lent → List ℕ → List Row → Rooms
-roomsOf c bs sh = record { string = length bs; sheet = length sh; question = c .questionRoom }
+abbrev pub capacitiesOf : Lent → List ℕ → List Row → Capacities
+capacitiesOf c bs sh = record { string = length bs; sheet = length sh; question = c .questionCapacity }
 
 abbrev pub stepWorld : Lent → World → Call → World
-stepWorld c (world H r bs sh q hs ts) (toHolder m) = afterHeard (world H r bs sh q hs ts) m (holderCall H (c .x) (c .xbits) m (c .replyRoom))
-stepWorld c (world H r bs sh q hs ts) (toRebuilder m) = afterTaken (world H r bs sh q hs ts) m (rebuilderCall r (c .y) (c .ybits) m (roomsOf c bs sh))
+stepWorld c (world H r bs sh q hs ts) (toHolder m) = afterHeard (world H r bs sh q hs ts) m (holderCall H (c .x) (c .xbits) m (c .replyCapacity))
+stepWorld c (world H r bs sh q hs ts) (toRebuilder m) = afterTaken (world H r bs sh q hs ts) m (rebuilderCall r (c .y) (c .ybits) m (capacitiesOf c bs sh))
 
 -- the calls, the last one first, from a world
 abbrev pub worldAfter : Lent → World → List Call → World
@@ -78,7 +78,7 @@ bitsOfY c = range (c .y) 0 (c .ybits)
 
 -- "The holder's answer to it is the message that "Messages" gives for X under the opening that the rebuilder wrote"
 abbrev pub answerTo : Lent → Question → List ℕ
-answerTo c q = answerBytes (told (c .settings) (bitsOfX c) q)
+answerTo c q = answerBytes (honestAnswer (c .settings) (bitsOfX c) q)
 
 -- m is the holder's answer to the question with the bytes w
 abbrev pub IsAnswer : Lent → (w m : List ℕ) → Type 0
@@ -87,7 +87,7 @@ IsAnswer c w m = (q : Question) × (readQuestion w (c .xbits) ≡ value q) × (m
 -- "Lists in which the rebuilder takes any other message are left out"
 abbrev pub FairCall : Lent → World → Call → Type 0
 FairCall c (world H r bs sh q hs ts) (toHolder m) = Unit {0}
-FairCall c (world H r bs sh q hs ts) (toRebuilder m) = (s : Step) (q′ : List ℕ) → rebuilderCall r (c .y) (c .ybits) m (roomsOf c bs sh) ≡ takes s q′ → IsAnswer c q m
+FairCall c (world H r bs sh q hs ts) (toRebuilder m) = (s : Step) (q′ : List ℕ) → rebuilderCall r (c .y) (c .ybits) m (capacitiesOf c bs sh) ≡ takes s q′ → IsAnswer c q m
 
 abbrev pub Fair : Lent → World → List Call → Type 0
 Fair c w [] = Unit {0}
@@ -135,10 +135,10 @@ pub record Demand3 (c : Lent) (bs₀ : List ℕ) (sh₀ : List Row) (H : Holder)
   pub asks : waiting ≡ writtenQuestion (asked c l)
   -- the holder's answer to it is not refused by the rebuilder
   pub accepts : (q : Question) → asked c l ≡ some q
-      → (s : Step) × (q′ : List ℕ) × (rebuilderCall r (c .y) (c .ybits) (answerTo c q) (roomsOf c bs sh) ≡ takes s q′)
+      → (s : Step) × (q′ : List ℕ) × (rebuilderCall r (c .y) (c .ybits) (answerTo c q) (capacitiesOf c bs sh) ≡ takes s q′)
   -- "A holder that had taken each earlier question once and nothing else replies exactly this"
   pub replied : (q : Question) → asked c l ≡ some q → OnceEach (c .settings) (bitsOfY c) l hs
-      → (H′ : Holder) × (holderCall H (c .x) (c .xbits) (questionBytes q) (c .replyRoom) ≡ replies H′ (answerTo c q))
+      → (H′ : Holder) × (holderCall H (c .x) (c .xbits) (questionBytes q) (c .replyCapacity) ≡ replies H′ (answerTo c q))
   -- questions answered: the answers taken, the opening's among them
   pub answered : r .answered ≡ length ts
   pub questions : length ts ≤ 10 * (c .xbits / c .settings .m) + 6
@@ -163,8 +163,8 @@ pub record Demand3 (c : Lent) (bs₀ : List ℕ) (sh₀ : List Row) (H : Holder)
 -- X and Y keep the string rule, the start was not turned down, and all buffers are long enough
 pub record Supposed (c : Lent) (r : Rebuilder) (q : List ℕ) (bs : List ℕ) (sh : List Row) : Type 0 where
   pub reference : stringRule (c .x) (c .xbits) ≡ true
-  pub started : rebuilderStart (c .settings) (c .y) (c .ybits) (c .questionRoom) ≡ starts r q
-  pub reply : max 9 (full (c .xbits)) ≤ c .replyRoom
+  pub started : rebuilderStart (c .settings) (c .y) (c .ybits) (c .questionCapacity) ≡ starts r q
+  pub reply : max 9 (full (c .xbits)) ≤ c .replyCapacity
   pub string : bytesFor (c .xbits) ≤ length bs
   pub sheet : 2 * (c .xbits / c .settings .m) + 1 ≤ length sh
 

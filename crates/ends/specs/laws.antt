@@ -16,7 +16,7 @@ pub mod SoundParts
 pub mod SoundSteps
 pub mod Moves
 pub mod Asking
-pub mod SheetRoom
+pub mod SheetLength
 pub mod HolderLaws
 pub mod Delivery
 pub mod CallLists

@@ -3,10 +3,10 @@
 ghost use mathlib.Core.Path.{_≡_};
 ghost use Prim.Native.Nat.{_+_, _-_, _≤_, min};
 ghost use lib.Dec.{leb};
-ghost use Rattle.strings.specs.Bits.{range};
+ghost use Rattle.strings.specs.Bits.{range, maxBits};
 ghost use Rattle.ends.specs.Anchors.{isqrt as isqrtOf, distance as distanceOf, place};
 ghost use Rattle.ends.specs.AnchorSearch.{placeIn, anchorSettings, anchorRange, saidAnchor, anchorSearch};
-ghost use Rattle.ends.specs.code.Window.{Ready, Small, windowStart, windowEnd};
+ghost use Rattle.ends.specs.code.Window.{Searching, Small, windowStart, windowEnd};
 use strings::Refusal;
 
 // Where an anchor is placed.
@@ -24,7 +24,7 @@ pub enum AnchorAnswer {
 
 // The largest number whose square is at most q.
 fn isqrt(q: usize) -> usize
-    requires { ⌜ q ≤ 65536 ⌝ }
+    requires { ⌜ q ≤ maxBits ⌝ }
     ensures { λ r. ⌜ r ≡ isqrtOf q ⌝ }
 {
     let mut r: usize = 0;
@@ -64,9 +64,9 @@ fn smaller(a: usize, b: usize) -> usize
     b
 }
 
-// One past the last place that is not too far to the right, 2r + p below due + least, and leaves room for m bits; due is 2s + q.
+// One past the last place that is not too far to the right, 2r + p below due + least, and has m bits of Y from there on; due is 2s + q.
 fn window_end(q: usize, m: usize, p: usize, due: usize, least: usize) -> usize
-    requires { ⌜ q ≤ 65536 ⌝ }
+    requires { ⌜ q ≤ maxBits ⌝ }
     requires { ⌜ Small p due least ⌝ }
     ensures { λ r. ⌜ r ≡ windowEnd q m p due least ⌝ }
 {
@@ -96,7 +96,7 @@ pub fn place_anchor(
     a: &[u8],
     at: usize,
 ) -> Place
-    requires { ⌜ Ready (now y) start q p s m k (now a) at ⌝ }
+    requires { ⌜ Searching (now y) start q p s m k (now a) at ⌝ }
     ensures { λ r. ⌜ r ≡ placeIn (place m k p s (range (now (y .entry)) start q) (range (now (a .entry)) at m)) ⌝ }
 {
     let due = 2 * s + q;
@@ -159,7 +159,7 @@ fn keeps_anchor_range(bits: usize, start: usize, q: usize, p: usize, s: usize, m
     if !ends_by(start, q, bits) {
         return false;
     }
-    if 65536 < p {
+    if strings::MAX_BITS < p {
         return false;
     }
     ends_by(s, m, p)

@@ -4,13 +4,11 @@ ghost use mathlib.Core.Bool.{true};
 ghost use Prim.Native.Nat.{_<_};
 ghost use lib.ListN.{length};
 ghost use Rattle.strings.specs.Bits.{range};
-ghost use Rattle.codes.specs.Syndrome.{syndrome};
-ghost use Rattle.codes.specs.Hash.{hash};
-ghost use Rattle.messages.specs.Answers.{sizeAnswer, hashAnswer, syndromeAnswer, bitsAnswer, answerBytes};
-ghost use Rattle.ends.specs.HolderCall.{freshHolder, sameBitCount, inTurn, sends, answersTo, ofKind, holderCall};
+ghost use Rattle.messages.specs.Answers.{sizeAnswer, bitsAnswer};
+ghost use Rattle.ends.specs.HolderCall.{freshHolder, sameBitCount, inTurn, answersTo, ofKind};
 ghost use Rattle.ends.specs.Soundness.{mostAnswers};
-ghost use Rattle.ends.specs.HolderOutcome.{saidHolder, leavesHolder};
-ghost use Rattle.ends.specs.code.HolderParts.{refused, written, openedWith, oneMore, Answers, Able, Ready};
+ghost use Rattle.ends.specs.HolderOutcome.{saidHolder, leavesHolder, holderOutcome};
+ghost use Rattle.ends.specs.code.HolderParts.{refused, written, openedWith, oneMore, hashReply, syndromeReply, replyOutcome, Answers, Able, Ready};
 use crate::Holder;
 use crate::MOST_ANSWERS;
 use crate::sound::holder_is_sound;
@@ -58,7 +56,7 @@ fn refuse(st: Holder, e: Refusal) -> HolderOut
     }
 }
 
-// What the writer of the reply gave: the state becomes `next` if there was room.
+// What the writer of the reply gave: the state becomes `next` if the buffer was long enough.
 fn reply_written(st: Holder, next: Holder, w: WriteResult) -> HolderOut
     ensures { λ r. ⌜ r ≡ written st next w ⌝ }
 {
@@ -87,7 +85,7 @@ fn one_more(st: Holder) -> Holder
 
 // The opening's answer for X of n bits.
 fn answer_open(st: Holder, n: u32, h: u32, key: u32, reply: &mut [u8]) -> HolderOut
-    ensures { λ r. ⌜ saidHolder r (now (reply .exit)) ≡ leavesHolder st (now (reply .entry)) (sends (length (now (reply .entry))) (openedWith n h key) (answerBytes (sizeAnswer n))) ⌝ }
+    ensures { λ r. ⌜ saidHolder r (now (reply .exit)) ≡ replyOutcome st (openedWith n h key) (sizeAnswer n) (now (reply .entry)) ⌝ }
 {
     let next = Holder {
         opened: true,
@@ -103,7 +101,8 @@ fn answer_open(st: Holder, n: u32, h: u32, key: u32, reply: &mut [u8]) -> Holder
 // The answer to a hash question.
 fn answer_hash(st: Holder, x: &[u8], start: u32, len: u32, reply: &mut [u8]) -> HolderOut
     requires { ⌜ Answers st (now x) start len ⌝ }
-    ensures { λ r. ⌜ saidHolder r (now (reply .exit)) ≡ leavesHolder st (now (reply .entry)) (sends (length (now (reply .entry))) (oneMore st) (answerBytes (hashAnswer (hash (st .h) (st .key) (range (now (x .entry)) start len))))) ⌝ }
+    ensures { λ r. ⌜ saidHolder r (now (reply .exit))
+        ≡ replyOutcome st (oneMore st) (hashReply st (range (now (x .entry)) start len)) (now (reply .entry)) ⌝ }
 {
     let next = one_more(st);
     let v = codes::hash_of(x, start as usize, len as usize, st.key, st.h);
@@ -114,7 +113,8 @@ fn answer_hash(st: Holder, x: &[u8], start: u32, len: u32, reply: &mut [u8]) -> 
 // The answer to a syndrome question.
 fn answer_syndrome(st: Holder, x: &[u8], start: u32, len: u32, reply: &mut [u8]) -> HolderOut
     requires { ⌜ Answers st (now x) start len ⌝ }
-    ensures { λ r. ⌜ saidHolder r (now (reply .exit)) ≡ leavesHolder st (now (reply .entry)) (sends (length (now (reply .entry))) (oneMore st) (answerBytes (syndromeAnswer (syndrome (range (now (x .entry)) start len)) (hash (st .h) (st .key) (range (now (x .entry)) start len))))) ⌝ }
+    ensures { λ r. ⌜ saidHolder r (now (reply .exit))
+        ≡ replyOutcome st (oneMore st) (syndromeReply st (range (now (x .entry)) start len)) (now (reply .entry)) ⌝ }
 {
     let next = one_more(st);
     let a = codes::syndrome_of(x, start as usize, len as usize);
@@ -126,7 +126,8 @@ fn answer_syndrome(st: Holder, x: &[u8], start: u32, len: u32, reply: &mut [u8])
 // The answer to a bits question.
 fn answer_bits(st: Holder, x: &[u8], start: u32, len: u32, reply: &mut [u8]) -> HolderOut
     requires { ⌜ Answers st (now x) start len ⌝ }
-    ensures { λ r. ⌜ saidHolder r (now (reply .exit)) ≡ leavesHolder st (now (reply .entry)) (sends (length (now (reply .entry))) (oneMore st) (answerBytes (bitsAnswer (range (now (x .entry)) start len)))) ⌝ }
+    ensures { λ r. ⌜ saidHolder r (now (reply .exit))
+        ≡ replyOutcome st (oneMore st) (bitsAnswer (range (now (x .entry)) start len)) (now (reply .entry)) ⌝ }
 {
     let next = one_more(st);
     let w = messages::write_bits(x, start as usize, len as usize, reply);
@@ -136,7 +137,8 @@ fn answer_bits(st: Holder, x: &[u8], start: u32, len: u32, reply: &mut [u8]) -> 
 // The answer to a question that was read, for X of n bits.
 fn answer_question(st: Holder, x: &[u8], n: u32, q: Question, reply: &mut [u8]) -> HolderOut
     requires { ⌜ Ready st (now x) n q ⌝ }
-    ensures { λ r. ⌜ saidHolder r (now (reply .exit)) ≡ leavesHolder st (now (reply .entry)) (answersTo st (now (x .entry)) n (length (now (reply .entry))) q) ⌝ }
+    ensures { λ r. ⌜ saidHolder r (now (reply .exit))
+        ≡ leavesHolder st (now (reply .entry)) (answersTo st (now (x .entry)) n (length (now (reply .entry))) q) ⌝ }
 {
     match q {
         Question::AskOpen(h, key) => answer_open(st, n, h, key, reply),
@@ -169,7 +171,8 @@ fn answer_kind(
     reply: &mut [u8],
 ) -> HolderOut
     requires { ⌜ Able st (now x) n ⌝ }
-    ensures { λ r. ⌜ saidHolder r (now (reply .exit)) ≡ leavesHolder st (now (reply .entry)) (ofKind st (now (x .entry)) n (now (msg .entry)) (length (now (reply .entry))) kind at) ⌝ }
+    ensures { λ r. ⌜ saidHolder r (now (reply .exit))
+        ≡ leavesHolder st (now (reply .entry)) (ofKind st (now (x .entry)) n (now (msg .entry)) (length (now (reply .entry))) kind at) ⌝ }
 {
     if !is_in_turn(st.opened, kind) {
         return refuse(st, Refusal::OutOfTurn);
@@ -192,7 +195,7 @@ fn has_same_bit_count(st: Holder, bits: usize) -> bool
 
 // The holder's call on X, its bit count, a message and the buffer for the reply.
 pub fn holder_call(st: Holder, x: &[u8], bits: usize, msg: &[u8], reply: &mut [u8]) -> HolderOut
-    ensures { λ r. ⌜ saidHolder r (now (reply .exit)) ≡ leavesHolder st (now (reply .entry)) (holderCall st (now (x .entry)) bits (now (msg .entry)) (length (now (reply .entry)))) ⌝ }
+    ensures { λ r. ⌜ saidHolder r (now (reply .exit)) ≡ holderOutcome st (now (x .entry)) bits (now (msg .entry)) (now (reply .entry)) ⌝ }
 {
     if !both(
         strings::keeps_string_rule(x, bits),

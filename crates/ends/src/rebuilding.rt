@@ -9,9 +9,9 @@ ghost use Rattle.strings.specs.Bits.{bytesFor};
 ghost use Rattle.messages.specs.Questions.{questionKind};
 ghost use Rattle.ends.specs.States.{planned};
 ghost use Rattle.ends.specs.Soundness.{sound};
-ghost use Rattle.ends.specs.RebuilderCall.{questionLength, awaits, rebuilderCall, rebuilderStart};
-ghost use Rattle.ends.specs.RebuilderOutcome.{saidRebuilder, leavesRebuilder, rooms, noRebuilder, saidStart, leavesStart};
-ghost use Rattle.ends.specs.code.RebuilderParts.{turnedDown, Due, answerRoom, heardStep};
+ghost use Rattle.ends.specs.RebuilderCall.{questionLength};
+ghost use Rattle.ends.specs.RebuilderOutcome.{saidRebuilder, rebuilderOutcome, capacities, noRebuilder, saidStart, startOutcome};
+ghost use Rattle.ends.specs.code.RebuilderParts.{turnedDown, Due, enoughForAnswer, heardOutcome, askedOutcome};
 ghost use Rattle.ends.specs.declared.rebuilding.StartAnswer.the-variants.{NotBegun};
 use crate::Rebuilder;
 use crate::SheetChange;
@@ -79,9 +79,10 @@ fn take(
     question: &mut [u8],
 ) -> RebuilderOut
     requires { ⌜ Due st (now msg) len read ⌝ }
-    requires { ⌜ ((rows : ℕ) × (answerRoom st (rooms (length (now string)) rows (length (now question))) read ≡ true)) ⌝ }
+    requires { ⌜ ((rows : ℕ) × (enoughForAnswer st (capacities (length (now string)) rows (length (now question))) read ≡ true)) ⌝ }
     requires { ⌜ st .ybits ≤ 8 * length (now y) ⌝ }
-    ensures { λ r. ⌜ saidRebuilder r (now (string .exit)) (now (question .exit)) ≡ leavesRebuilder st (now (string .entry)) (now (question .entry)) (heardStep st (now (y .entry)) (now (msg .entry)) len read) ⌝ }
+    ensures { λ r. ⌜ saidRebuilder r (now (string .exit)) (now (question .exit))
+        ≡ heardOutcome st (now (y .entry)) (now (msg .entry)) len read (now (string .entry)) (now (question .entry)) ⌝ }
 {
     match read {
         AnswerRead::NoAnswer(e) => refuse(st, e),
@@ -107,8 +108,8 @@ fn take(
     }
 }
 
-// Whether the lent room is enough for n bits under m.
-fn has_room(m: u32, n: u32, string: usize, rows: usize, question: usize) -> bool
+// Whether the lent buffers are enough for n bits under m.
+fn is_enough(m: u32, n: u32, string: usize, rows: usize, question: usize) -> bool
     requires { ⌜ 0 < m ⌝ }
     ensures { λ r. ⌜ r ≡ (leb (bytesFor n) string && (leb (2 * (n / m) + 1) rows && leb 8 question)) ⌝ }
 {
@@ -120,7 +121,7 @@ fn has_room(m: u32, n: u32, string: usize, rows: usize, question: usize) -> bool
 }
 
 // Whether it is enough for the answer that was read.
-fn has_answer_room(
+fn is_enough_for_answer(
     st: Rebuilder,
     read: AnswerRead,
     string: usize,
@@ -128,14 +129,14 @@ fn has_answer_room(
     question: usize,
 ) -> bool
     requires { ⌜ 0 < st .settings .m ⌝ }
-    ensures { λ r. ⌜ r ≡ answerRoom st (rooms string rows question) read ⌝ }
+    ensures { λ r. ⌜ r ≡ enoughForAnswer st (capacities string rows question) read ⌝ }
 {
     match read {
         AnswerRead::NoAnswer(e) => true,
-        AnswerRead::IsSize(n) => has_room(st.settings.m, n, string, rows, question),
-        AnswerRead::IsHash(v) => has_room(st.settings.m, st.n, string, rows, question),
-        AnswerRead::IsSyndrome(a, v) => has_room(st.settings.m, st.n, string, rows, question),
-        AnswerRead::IsBits(at) => has_room(st.settings.m, st.n, string, rows, question),
+        AnswerRead::IsSize(n) => is_enough(st.settings.m, n, string, rows, question),
+        AnswerRead::IsHash(v) => is_enough(st.settings.m, st.n, string, rows, question),
+        AnswerRead::IsSyndrome(a, v) => is_enough(st.settings.m, st.n, string, rows, question),
+        AnswerRead::IsBits(at) => is_enough(st.settings.m, st.n, string, rows, question),
     }
 }
 
@@ -172,12 +173,13 @@ fn hear(
     question: &mut [u8],
 ) -> RebuilderOut
     requires { ⌜ (sound st ≡ true) × (planned st ≡ some q) × (st .ybits ≤ 8 * length (now y)) ⌝ }
-    ensures { λ r. ⌜ saidRebuilder r (now (string .exit)) (now (question .exit)) ≡ leavesRebuilder st (now (string .entry)) (now (question .entry)) (awaits st (now (y .entry)) (now (msg .entry)) (rooms (length (now (string .entry))) rows (length (now (question .entry)))) (some q)) ⌝ }
+    ensures { λ r. ⌜ saidRebuilder r (now (string .exit)) (now (question .exit))
+        ≡ askedOutcome st (now (y .entry)) (now (msg .entry)) rows q (now (string .entry)) (now (question .entry)) ⌝ }
 {
     let len = question_length(q);
     let kind = question_kind(q);
     let read = messages::read_answer(kind, len, st.settings.h, msg);
-    if !has_answer_room(st, read, string.len(), rows, question.len()) {
+    if !is_enough_for_answer(st, read, string.len(), rows, question.len()) {
         return refuse(st, Refusal::BufferTooShort);
     }
     take(st, y, msg, len, read, string, question)
@@ -193,7 +195,8 @@ pub fn rebuilder_call(
     string: &mut [u8],
     question: &mut [u8],
 ) -> RebuilderOut
-    ensures { λ r. ⌜ saidRebuilder r (now (string .exit)) (now (question .exit)) ≡ leavesRebuilder st (now (string .entry)) (now (question .entry)) (rebuilderCall st (now (y .entry)) bits (now (msg .entry)) (rooms (length (now (string .entry))) rows (length (now (question .entry))))) ⌝ }
+    ensures { λ r. ⌜ saidRebuilder r (now (string .exit)) (now (question .exit))
+        ≡ rebuilderOutcome st (now (y .entry)) bits (now (msg .entry)) rows (now (string .entry)) (now (question .entry)) ⌝ }
 {
     if !both(
         strings::keeps_string_rule(y, bits),
@@ -238,7 +241,7 @@ fn not_begun(e: Refusal) -> StartOut
 
 // The rebuilder's start with settings on Y and its bit count, and the buffer for the opening question.
 pub fn rebuilder_start(settings: Settings, y: &[u8], bits: usize, question: &mut [u8]) -> StartOut
-    ensures { λ r. ⌜ saidStart r (now (question .exit)) ≡ leavesStart (now (question .entry)) (rebuilderStart settings (now (y .entry)) bits (length (now (question .entry)))) ⌝ }
+    ensures { λ r. ⌜ saidStart r (now (question .exit)) ≡ startOutcome settings (now (y .entry)) bits (now (question .entry)) ⌝ }
 {
     if !settings.is_within_limits() {
         return not_begun(Refusal::BadSetting);

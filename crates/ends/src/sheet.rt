@@ -5,9 +5,8 @@ ghost use mathlib.Core.List.{[], _∷_};
 ghost use Prim.Native.Nat.{_-_, _≤_, _<_};
 ghost use lib.ListN.{length, replicate};
 ghost use lib.Seq.{sets};
-ghost use Rattle.ends.specs.RebuilderCall.{noRow, rebuilderCall, sheetAfter, rowsNeeded};
-ghost use Rattle.ends.specs.RebuilderOutcome.{rooms};
-ghost use Rattle.ends.specs.SheetCall.{saidOnSheet, leavesOnSheet};
+ghost use Rattle.ends.specs.RebuilderCall.{noRow, sheetAfter, rowsNeeded};
+ghost use Rattle.ends.specs.SheetCall.{saidOnSheet, sheetOutcome};
 use crate::Rebuilder;
 use crate::Row;
 use crate::SheetChange;
@@ -73,7 +72,8 @@ pub fn rebuilder_call_on_sheet(
     string: &mut [u8],
     question: &mut [u8],
 ) -> RebuilderOut
-    ensures { λ r. ⌜ saidOnSheet r (now (sheet .exit)) (now (string .exit)) (now (question .exit)) ≡ leavesOnSheet st (now (sheet .entry)) (now (string .entry)) (now (question .entry)) (rebuilderCall st (now (y .entry)) bits (now (msg .entry)) (rooms (length (now (string .entry))) (length (now (sheet .entry))) (length (now (question .entry))))) ⌝ }
+    ensures { λ r. ⌜ saidOnSheet r (now (sheet .exit)) (now (string .exit)) (now (question .exit))
+        ≡ sheetOutcome st (now (y .entry)) bits (now (msg .entry)) (now (sheet .entry)) (now (string .entry)) (now (question .entry)) ⌝ }
 {
     let out = rebuilder_call(st, y, bits, msg, sheet.len(), string, question);
     let change = out.sheet;

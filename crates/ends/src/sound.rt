@@ -2,6 +2,7 @@
 ghost use mathlib.Core.Path.{_≡_};
 ghost use mathlib.Core.Bool.{true, false};
 ghost use Prim.Native.Nat.{_+_, _-_, _*_, _/_, max, _≤_, _<_};
+ghost use Rattle.strings.specs.Bits.{maxBits};
 ghost use Rattle.ends.specs.Soundness.{bound, holderSound, isBlank, blankFrom, pieceFits, inOrder, stageFits, isHashing, asksBefore, stackSound, openingSound, piecesSound, wholeSound, sound, topFits, rowsFit, asksFit, lastAskFits, mostCounted, phaseSound};
 ghost use Rattle.ends.specs.Runs.{full};
 ghost use Rattle.ends.specs.States.{held};
@@ -233,7 +234,7 @@ fn stack_is_sound(st: Rebuilder) -> bool
 
 // The bytes of the answer with all n bits.
 fn full_size(n: u32) -> u32
-    requires { ⌜ n ≤ 65536 ⌝ }
+    requires { ⌜ n ≤ maxBits ⌝ }
     ensures { λ r. ⌜ r ≡ full n ⌝ }
 {
     1 + (n + 7) / 8
@@ -241,7 +242,7 @@ fn full_size(n: u32) -> u32
 
 // The most bytes that one answer has.
 fn answer_bound(n: u32) -> u32
-    requires { ⌜ n ≤ 65536 ⌝ }
+    requires { ⌜ n ≤ maxBits ⌝ }
     ensures { λ r. ⌜ r ≡ max 9 (full n) ⌝ }
 {
     let f = full_size(n);

@@ -1,11 +1,11 @@
 // What an answer that was read makes of state, string, sheet and question: steps 1 to 4 of 01, "The rebuilder", and the whole string.
-// The functions require what the call has tested before it comes to them: a sound state that asks this question, and enough room.
+// The functions require what the call has tested before it comes to them: a sound state that asks this question, and buffers that are long enough.
 ghost use mathlib.Core.Path.{_≡_};
 ghost use mathlib.Core.Bool.{true};
 ghost use mathlib.Core.List.{List};
 ghost use Prim.Native.Nat.{ℕ, _+_, _*_, _≤_, _<_};
 ghost use lib.ListN.{length};
-ghost use Rattle.strings.specs.Bits.{range, bytesFor};
+ghost use Rattle.strings.specs.Bits.{range, bytesFor, maxBits};
 ghost use Rattle.messages.specs.Answers.{sizeAnswer, hashAnswer, syndromeAnswer, bitsAnswer};
 ghost use Rattle.ends.specs.Segments.{howNumber, row};
 ghost use Rattle.ends.specs.States.{top, popped, restaged, retried, splitAt};
@@ -13,9 +13,9 @@ ghost use Rattle.ends.specs.Soundness.{sound};
 ghost use Rattle.ends.specs.declared.SheetChange.the-variants.{NoRow, AddRow};
 ghost use Rattle.ends.specs.declared.How.the-variants.{ByAnchor};
 ghost use Rattle.ends.specs.declared.Stage.the-variants.{Hashing, Anchor, AllBits};
-ghost use Rattle.ends.specs.RebuilderCall.{tallied, stepOf};
-ghost use Rattle.ends.specs.RebuilderOutcome.{saidRebuilder, leavesRebuilder};
-ghost use Rattle.ends.specs.code.RebuilderParts.{OutIs, Acting, Splitting, Lending, Retriable, RepairDue, AsksBits, bitsOfStage, repairHow, stepTaken, WholeDue, Opening, BitsDue, dueLength};
+ghost use Rattle.ends.specs.RebuilderCall.{tallied};
+ghost use Rattle.ends.specs.RebuilderOutcome.{saidRebuilder};
+ghost use Rattle.ends.specs.code.RebuilderParts.{OutIs, Acting, Splitting, Lending, Retriable, RepairDue, AsksBits, bitsOfStage, repairHow, stepOutcome, WholeDue, Opening, BitsDue, dueLength};
 use crate::Attempt;
 use crate::How;
 use crate::Phase;
@@ -130,7 +130,8 @@ pub fn take_hash(
     requires { ⌜ Acting st size (length (now question)) ⌝ }
     requires { ⌜ Lending st (now y) (now string) ⌝ }
     requires { ⌜ (st .stage ≡ Hashing) × (top st .q ≡ top st .p) ⌝ }
-    ensures { λ r. ⌜ saidRebuilder r (now (string .exit)) (now (question .exit)) ≡ leavesRebuilder st (now (string .entry)) (now (question .entry)) (stepTaken (stepOf st (now (y .entry)) size (hashAnswer v))) ⌝ }
+    ensures { λ r. ⌜ saidRebuilder r (now (string .exit)) (now (question .exit))
+        ≡ stepOutcome st (now (y .entry)) size (hashAnswer v) (now (string .entry)) (now (question .entry)) ⌝ }
 {
     let t = state::top(st);
     let x = t.x as usize;
@@ -144,7 +145,7 @@ pub fn take_hash(
 
 // How a piece of p bits is repaired from a copy of q bits.
 fn repair_how(p: u32, q: u32) -> How
-    requires { ⌜ q < 65537 ⌝ }
+    requires { ⌜ q ≤ maxBits ⌝ }
     ensures { λ r. ⌜ r ≡ repairHow p q ⌝ }
 {
     if q + 1 == p {
@@ -166,7 +167,8 @@ pub fn take_syndrome(
     requires { ⌜ Acting st size (length (now question)) ⌝ }
     requires { ⌜ Lending st (now y) (now string) ⌝ }
     requires { ⌜ RepairDue st ⌝ }
-    ensures { λ r. ⌜ saidRebuilder r (now (string .exit)) (now (question .exit)) ≡ leavesRebuilder st (now (string .entry)) (now (question .entry)) (stepTaken (stepOf st (now (y .entry)) size (syndromeAnswer a v))) ⌝ }
+    ensures { λ r. ⌜ saidRebuilder r (now (string .exit)) (now (question .exit))
+        ≡ stepOutcome st (now (y .entry)) size (syndromeAnswer a v) (now (string .entry)) (now (question .entry)) ⌝ }
 {
     let t = state::top(st);
     let x = t.x as usize;
@@ -202,7 +204,8 @@ fn take_piece(
     requires { ⌜ Acting st size (length (now question)) ⌝ }
     requires { ⌜ (st .n ≤ 8 * length (now string)) × (st .stage ≡ AllBits) ⌝ }
     requires { ⌜ top st .p ≤ 8 * length (now bits) ⌝ }
-    ensures { λ r. ⌜ ((y : List ℕ) → saidRebuilder r (now (string .exit)) (now (question .exit)) ≡ leavesRebuilder st (now (string .entry)) (now (question .entry)) (stepTaken (stepOf st y size (bitsAnswer (range (now (bits .entry)) 0 (top st .p)))))) ⌝ }
+    ensures { λ r. ⌜ ((y : List ℕ) → saidRebuilder r (now (string .exit)) (now (question .exit))
+        ≡ stepOutcome st y size (bitsAnswer (range (now (bits .entry)) 0 (top st .p))) (now (string .entry)) (now (question .entry))) ⌝ }
 {
     let t = state::top(st);
     strings::copy_bits(bits, 0, t.p as usize, string, t.x as usize);
@@ -223,7 +226,8 @@ fn take_anchor(
     requires { ⌜ Lending st (now y) (now string) ⌝ }
     requires { ⌜ st .stage ≡ Anchor i ⌝ }
     requires { ⌜ st .settings .m ≤ 8 * length (now bits) ⌝ }
-    ensures { λ r. ⌜ saidRebuilder r (now (string .exit)) (now (question .exit)) ≡ leavesRebuilder st (now (string .entry)) (now (question .entry)) (stepTaken (stepOf st (now (y .entry)) size (bitsAnswer (range (now (bits .entry)) 0 (st .settings .m))))) ⌝ }
+    ensures { λ r. ⌜ saidRebuilder r (now (string .exit)) (now (question .exit))
+        ≡ stepOutcome st (now (y .entry)) size (bitsAnswer (range (now (bits .entry)) 0 (st .settings .m))) (now (string .entry)) (now (question .entry)) ⌝ }
 {
     let t = state::top(st);
     let m = st.settings.m as usize;
@@ -260,7 +264,8 @@ fn take_whole(
 ) -> RebuilderOut
     requires { ⌜ WholeDue st size (length (now question)) ⌝ }
     requires { ⌜ (st .n ≤ 8 * length (now string)) × (st .n ≤ 8 * length (now bits)) ⌝ }
-    ensures { λ r. ⌜ ((y : List ℕ) → saidRebuilder r (now (string .exit)) (now (question .exit)) ≡ leavesRebuilder st (now (string .entry)) (now (question .entry)) (stepTaken (stepOf st y size (bitsAnswer (range (now (bits .entry)) 0 (st .n)))))) ⌝ }
+    ensures { λ r. ⌜ ((y : List ℕ) → saidRebuilder r (now (string .exit)) (now (question .exit))
+        ≡ stepOutcome st y size (bitsAnswer (range (now (bits .entry)) 0 (st .n))) (now (string .entry)) (now (question .entry))) ⌝ }
 {
     let s = state::whole_state(st, size);
     strings::copy_bits(bits, 0, st.n as usize, string, 0);
@@ -276,7 +281,8 @@ fn take_whole(
 pub fn take_size(st: Rebuilder, n: u32, string: &mut [u8], question: &mut [u8]) -> RebuilderOut
     requires { ⌜ Opening st n (length (now question)) ⌝ }
     requires { ⌜ bytesFor n ≤ length (now string) ⌝ }
-    ensures { λ r. ⌜ ((y : List ℕ) (size : ℕ) → saidRebuilder r (now (string .exit)) (now (question .exit)) ≡ leavesRebuilder st (now (string .entry)) (now (question .entry)) (stepTaken (stepOf st y size (sizeAnswer n)))) ⌝ }
+    ensures { λ r. ⌜ ((y : List ℕ) (size : ℕ) → saidRebuilder r (now (string .exit)) (now (question .exit))
+        ≡ stepOutcome st y size (sizeAnswer n) (now (string .entry)) (now (question .entry))) ⌝ }
 {
     let s = state::open_state(st, n);
     strings::clear_bytes(string, 0, (n as usize + 7) / 8);
@@ -295,7 +301,8 @@ fn take_piece_bits(
     requires { ⌜ Acting st size (length (now question)) ⌝ }
     requires { ⌜ Lending st (now y) (now string) ⌝ }
     requires { ⌜ AsksBits (st .stage) × (bitsOfStage st (st .stage) ≤ 8 * length (now bits)) ⌝ }
-    ensures { λ r. ⌜ saidRebuilder r (now (string .exit)) (now (question .exit)) ≡ leavesRebuilder st (now (string .entry)) (now (question .entry)) (stepTaken (stepOf st (now (y .entry)) size (bitsAnswer (range (now (bits .entry)) 0 (bitsOfStage st (st .stage)))))) ⌝ }
+    ensures { λ r. ⌜ saidRebuilder r (now (string .exit)) (now (question .exit))
+        ≡ stepOutcome st (now (y .entry)) size (bitsAnswer (range (now (bits .entry)) 0 (bitsOfStage st (st .stage)))) (now (string .entry)) (now (question .entry)) ⌝ }
 {
     let stage = st.stage;
     match stage {
@@ -320,7 +327,8 @@ pub fn take_bits(
     requires { ⌜ BitsDue st size (length (now question)) ⌝ }
     requires { ⌜ Lending st (now y) (now string) ⌝ }
     requires { ⌜ dueLength st ≤ 8 * length (now bits) ⌝ }
-    ensures { λ r. ⌜ saidRebuilder r (now (string .exit)) (now (question .exit)) ≡ leavesRebuilder st (now (string .entry)) (now (question .entry)) (stepTaken (stepOf st (now (y .entry)) size (bitsAnswer (range (now (bits .entry)) 0 (dueLength st))))) ⌝ }
+    ensures { λ r. ⌜ saidRebuilder r (now (string .exit)) (now (question .exit))
+        ≡ stepOutcome st (now (y .entry)) size (bitsAnswer (range (now (bits .entry)) 0 (dueLength st))) (now (string .entry)) (now (question .entry)) ⌝ }
 {
     let phase = st.phase;
     match phase {

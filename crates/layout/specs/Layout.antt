@@ -89,13 +89,13 @@ piecesAt s at (suc n) = pieceAt s at ∷ piecesAt s (at + 16) n
 abbrev pub rebuilderSize : ℕ
 rebuilderSize = 564
 
-unfoldable pub fieldBytes : Rebuilder → List ℕ
-fieldBytes st = allBytes (
+unfoldable pub headBytes : Rebuilder → List ℕ
+headBytes st = allBytes (
     st .settings .m ∷ st .settings .h ∷ st .settings .k ∷ st .settings .key ∷ st .settings .ceiling ∷
     st .ybits ∷ phaseNumber (st .phase) ∷ st .n ∷ st .answered ∷ st .counted ∷ st .rows ∷ stageNumber (st .stage) ∷ st .waiting ∷ [])
 
 unfoldable pub rebuilderBytes : Rebuilder → List ℕ
-rebuilderBytes st = fieldBytes st ++ piecesBytes (st .pieces) 0 32
+rebuilderBytes st = headBytes st ++ piecesBytes (st .pieces) 0 32
 
 -- the state whose numbers stand in s, with the pieces l
 unfoldable pub fieldsOf : List ℕ → List Piece → Rebuilder

@@ -1,5 +1,5 @@
 // States and sheet as bytes (docs/LAYOUT.md), for the C interface; the demonstration program keeps its sheet so too. Reading and writing
-// require that the slice is long enough: an entry point tests it first, and the demonstration's sheet has room for every run.
+// require that the slice is long enough: an entry point tests it first, and the demonstration's sheet is long enough for every run.
 mod cases;
 mod numbers;
 mod sheet;

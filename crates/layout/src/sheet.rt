@@ -5,7 +5,8 @@ ghost use Prim.Native.Nat.{_+_, _-_, _*_, _≤_};
 ghost use lib.ListN.{length, replicate};
 ghost use lib.Seq.{sets};
 ghost use Rattle.ends.specs.RebuilderCall.{noRow, rowsNeeded};
-ghost use Rattle.layout.specs.Sheet.{rowAt, rowBytes, rowsBytes, sheetBytesAfter};
+ghost use Rattle.layout.specs.Sheet.{rowSize, rowAt, rowBytes, rowsBytes, sheetBytesAfter};
+use crate::ROW_BYTES;
 use crate::numbers::read_u32;
 use crate::numbers::write_two;
 use crate::numbers::write_u32;
@@ -14,10 +15,10 @@ use ends::SheetChange;
 
 // The row at its index.
 pub fn read_row(sheet: &[u8], index: usize) -> Row
-    requires { ⌜ 12 * index + 12 ≤ length (now sheet) ⌝ }
-    ensures { λ r. ⌜ r ≡ rowAt (now (sheet .entry)) (12 * index) ⌝ }
+    requires { ⌜ rowSize * index + rowSize ≤ length (now sheet) ⌝ }
+    ensures { λ r. ⌜ r ≡ rowAt (now (sheet .entry)) (rowSize * index) ⌝ }
 {
-    let from = 12 * index;
+    let from = ROW_BYTES * index;
     Row {
         start: read_u32(sheet, from),
         len: read_u32(sheet, from + 4),
@@ -27,28 +28,28 @@ pub fn read_row(sheet: &[u8], index: usize) -> Row
 
 // A row is written at its index.
 pub fn write_row(sheet: &mut [u8], index: usize, row: Row)
-    requires { ⌜ 12 * index + 12 ≤ length (now sheet) ⌝ }
-    ensures { λ r. ⌜ now (sheet .exit) ≡ sets (now (sheet .entry)) (12 * index) (rowBytes row) ⌝ }
+    requires { ⌜ rowSize * index + rowSize ≤ length (now sheet) ⌝ }
+    ensures { λ r. ⌜ now (sheet .exit) ≡ sets (now (sheet .entry)) (rowSize * index) (rowBytes row) ⌝ }
 {
-    let at = 12 * index;
+    let at = ROW_BYTES * index;
     write_two(sheet, at, row.start, row.len);
     write_u32(sheet, at + 8, row.how);
 }
 
 // The rows `from` to to - 1 become zeros.
 pub fn clear_rows(sheet: &mut [u8], from: usize, to: usize)
-    requires { ⌜ 12 * to ≤ length (now sheet) ⌝ }
-    ensures { λ r. ⌜ now (sheet .exit) ≡ sets (now (sheet .entry)) (12 * from) (rowsBytes (replicate (to - from) noRow)) ⌝ }
+    requires { ⌜ rowSize * to ≤ length (now sheet) ⌝ }
+    ensures { λ r. ⌜ now (sheet .exit) ≡ sets (now (sheet .entry)) (rowSize * from) (rowsBytes (replicate (to - from) noRow)) ⌝ }
 {
     if to <= from {
         return;
     }
-    strings::clear_bytes(sheet, 12 * from, 12 * (to - from));
+    strings::clear_bytes(sheet, ROW_BYTES * from, ROW_BYTES * (to - from));
 }
 
 // What a call of the rebuilder does to the sheet is done to its bytes.
 pub fn apply_change(sheet: &mut [u8], change: SheetChange)
-    requires { ⌜ 12 * rowsNeeded change ≤ length (now sheet) ⌝ }
+    requires { ⌜ rowSize * rowsNeeded change ≤ length (now sheet) ⌝ }
     ensures { λ r. ⌜ now (sheet .exit) ≡ sheetBytesAfter (now (sheet .entry)) change ⌝ }
 {
     match change {

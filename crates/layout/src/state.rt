@@ -6,7 +6,7 @@ ghost use Prim.Native.Nat.{_+_, _≤_};
 ghost use lib.ListN.{length, drop, replicate};
 ghost use lib.Seq.{sets};
 ghost use Rattle.ends.specs.States.{noPiece};
-ghost use Rattle.layout.specs.Layout.{holderSize, holderBytes, holderOf, isHolder, pieceBytes, pieceAt, piecesBytes, rebuilderSize, fieldBytes, rebuilderBytes, fieldsOf, rebuilderOf, isRebuilder};
+ghost use Rattle.layout.specs.Layout.{holderSize, holderBytes, holderOf, isHolder, pieceBytes, pieceAt, piecesBytes, rebuilderSize, headBytes, rebuilderBytes, fieldsOf, rebuilderOf, isRebuilder};
 use crate::HOLDER_BYTES;
 use crate::REBUILDER_BYTES;
 use crate::cases::opened_number;
@@ -152,7 +152,7 @@ pub fn read_rebuilder(s: &[u8]) -> Rebuilder
 // A rebuilder's state but for its pieces is written at the front.
 fn write_fields(s: &mut [u8], st: Rebuilder)
     requires { ⌜ 52 ≤ length (now s) ⌝ }
-    ensures { λ r. ⌜ now (s .exit) ≡ sets (now (s .entry)) 0 (fieldBytes st) ⌝ }
+    ensures { λ r. ⌜ now (s .exit) ≡ sets (now (s .entry)) 0 (headBytes st) ⌝ }
 {
     let set = st.settings;
     let p = st.phase;

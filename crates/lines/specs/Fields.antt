@@ -39,8 +39,8 @@ abbrev pub bytesBetween : ℕ → ℕ → List ℕ → List ℕ
 bytesBetween a b s = take (b - a) (drop a s)
 
 -- the bytes of field i
-abbrev pub fieldBytes : ℕ → ℕ → List ℕ → Option (List ℕ)
-fieldBytes sep i s = Option·map (λ (place : ℕ × ℕ). bytesBetween (place .0) (place .1) s) (field sep i s)
+abbrev pub fieldText : ℕ → ℕ → List ℕ → Option (List ℕ)
+fieldText sep i s = Option·map (λ (place : ℕ × ℕ). bytesBetween (place .0) (place .1) s) (field sep i s)
 
 -- whether there is nothing
 abbrev pub absent : {A : Type 0} → Option A → Bool
@@ -54,4 +54,4 @@ orRefuse e (some a) = value a
 
 -- line i of the input, counted from 0; a missing line is refused as one of another form is, with e
 abbrev pub lineOf : Refusal → ℕ → List ℕ → Result (List ℕ)
-lineOf e i input = orRefuse e (fieldBytes newlineByte i input)
+lineOf e i input = orRefuse e (fieldText newlineByte i input)

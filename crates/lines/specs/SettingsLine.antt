@@ -12,7 +12,7 @@ use Rattle.strings.specs.Refusals.{refusalNumber}
 use Rattle.strings.specs.Results.{Result, refusal, value, unless, andThen}
 use Rattle.lines.specs.declared.SettingsRead.{SettingsRead}
 use Rattle.lines.specs.declared.SettingsRead.the-variants.{Parsed, Malformed}
-use Rattle.lines.specs.Fields.{blankByte, field, fieldBytes, absent, orRefuse, lineOf}
+use Rattle.lines.specs.Fields.{blankByte, field, fieldText, absent, orRefuse, lineOf}
 
 -- the bytes 0 (48) to 9 (57)
 unfoldable pub isDigit : ℕ → Bool
@@ -33,7 +33,7 @@ decimalOf l = cond (ltb 0 (length l) && (allDigits l && ltb (valueFrom 0 l) 4294
 
 -- the number of group i of the line, the groups being what blanks part; an empty group, as between two blanks, is none
 unfoldable pub groupOf : List ℕ → ℕ → Option ℕ
-groupOf line i = bind (fieldBytes blankByte i line) decimalOf
+groupOf line i = bind (fieldText blankByte i line) decimalOf
 
 -- the setting in group i
 abbrev pub settingAt : List ℕ → ℕ → Result ℕ

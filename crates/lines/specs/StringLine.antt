@@ -9,7 +9,7 @@ use Rattle.strings.specs.declared.Refusal.the-variants.{BadString, BufferTooSho
 use Rattle.strings.specs.Refusals.{refusalNumber}
 use Rattle.strings.specs.Results.{Result, refusal, value, unless, andThen}
 use Rattle.lines.specs.declared.StringRead.{StringRead}
-use Rattle.lines.specs.declared.StringRead.the-variants.{Packed, NotBits, BufferTooShort as NoRoom}
+use Rattle.lines.specs.declared.StringRead.the-variants.{Packed, NotBits, BufferTooShort as TooShort}
 use Rattle.lines.specs.Fields.{lineOf}
 
 -- the bytes 0 (48) and 1 (49)
@@ -21,20 +21,20 @@ allBits [] = true
 allBits (x ∷ l) = isBit x && allBits l
 
 -- the bits that a line of zeros and ones says
-unfoldable pub bitsOf : List ℕ → List Bool
-bitsOf [] = []
-bitsOf (x ∷ l) = eqb x 49 ∷ bitsOf l
+unfoldable pub lineBits : List ℕ → List Bool
+lineBits [] = []
+lineBits (x ∷ l) = eqb x 49 ∷ lineBits l
 
--- the string of a line, for a buffer of `room` bytes: 2, 9, else the string
+-- the string of a line, for a buffer of `capacity` bytes: 2, 9, else the string
 unfoldable pub stringOf : List ℕ → ℕ → Result (List Bool)
-stringOf line room =
+stringOf line capacity =
     unless (leb (length line) maxBits && allBits line) BadString (
-    unless (leb (bytesFor (length line)) room) BufferTooShort (
-    value (bitsOf line)))
+    unless (leb (bytesFor (length line)) capacity) BufferTooShort (
+    value (lineBits line)))
 
 -- the string of line i of the input: X is line 1, Y line 2
 unfoldable pub stringIn : List ℕ → ℕ → ℕ → Result (List Bool)
-stringIn input i room = andThen (lineOf BadString i input) (λ line. stringOf line room)
+stringIn input i capacity = andThen (lineOf BadString i input) (λ line. stringOf line capacity)
 
 -- what reading a string gives, its bit count or a refusal, and what the lent buffer holds after it
 pub record StringSaid : Type 0 where
@@ -50,4 +50,4 @@ leavesString out (value bits) = record { count = value (length bits); buffer = a
 abbrev pub saidString : StringRead → List ℕ → StringSaid
 saidString (Packed n) out = record { count = value n; buffer = out }
 saidString NotBits out = record { count = refusal (refusalNumber BadString); buffer = out }
-saidString NoRoom out = record { count = refusal (refusalNumber BufferTooShort); buffer = out }
+saidString TooShort out = record { count = refusal (refusalNumber BufferTooShort); buffer = out }

@@ -7,7 +7,7 @@ ghost use lib.ListN.{length};
 ghost use Rattle.strings.specs.Bits.{writeBits, range};
 ghost use Rattle.lines.specs.Fields.{blankByte, fieldEnd, field};
 ghost use Rattle.lines.specs.SettingsLine.{isDigit, decimalOf, groupOf, fiveGroups, settingsOf, settingsIn, saidSettings};
-ghost use Rattle.lines.specs.StringLine.{isBit, allBits, bitsOf, stringOf, stringIn, leavesString, saidString};
+ghost use Rattle.lines.specs.StringLine.{isBit, allBits, lineBits, stringOf, stringIn, leavesString, saidString};
 ghost use Rattle.lines.specs.code.Readings.{saidField, saidDecimal};
 ghost use Rattle.lines.specs.Printing.{Puts, hexDigit, hexOf, decimal, bitByte, bitBytes, messageLine, rowLine, lastLine, refusalLine};
 use strings::Settings;
@@ -196,7 +196,7 @@ fn only_bits(s: &[u8]) -> bool
 // The line's zeros and ones are written as bits from the first place on.
 fn write_line(s: &[u8], out: &mut [u8])
     requires { ⌜ length (now s) ≤ 8 * length (now out) ⌝ }
-    ensures { λ r. ⌜ now (out .exit) ≡ writeBits (now (out .entry)) 0 (bitsOf (now (s .entry))) ⌝ }
+    ensures { λ r. ⌜ now (out .exit) ≡ writeBits (now (out .entry)) 0 (lineBits (now (s .entry))) ⌝ }
 {
     let mut i: usize = 0;
     while i < s.len() {
@@ -207,7 +207,8 @@ fn write_line(s: &[u8], out: &mut [u8])
 
 // A line of zeros and ones, at most 65,536, is packed at the front of the buffer. Nothing is written before the whole line was checked.
 fn parse_bits(s: &[u8], out: &mut [u8]) -> StringRead
-    ensures { λ r. ⌜ saidString r (now (out .exit)) ≡ leavesString (now (out .entry)) (stringOf (now (s .entry)) (length (now (out .entry)))) ⌝ }
+    ensures { λ r. ⌜ saidString r (now (out .exit))
+        ≡ leavesString (now (out .entry)) (stringOf (now (s .entry)) (length (now (out .entry)))) ⌝ }
 {
     let n = s.len();
     if strings::MAX_BITS < n {
@@ -227,7 +228,8 @@ fn parse_bits(s: &[u8], out: &mut [u8]) -> StringRead
 
 // The string of a line of the input, lines counted from 0; a missing line is of another form.
 pub fn read_string(input: &[u8], index: usize, out: &mut [u8]) -> StringRead
-    ensures { λ r. ⌜ saidString r (now (out .exit)) ≡ leavesString (now (out .entry)) (stringIn (now (input .entry)) index (length (now (out .entry)))) ⌝ }
+    ensures { λ r. ⌜ saidString r (now (out .exit))
+        ≡ leavesString (now (out .entry)) (stringIn (now (input .entry)) index (length (now (out .entry)))) ⌝ }
 {
     match find_field(input, b'\n', index) {
         FieldFound::Missing => StringRead::NotBits,

@@ -44,7 +44,8 @@ pub fn write_syndrome(a: u32, v: u32, buf: &mut [u8]) -> WriteResult
 // The answer to a bits question: the len bits of `x` from bit `start` on, which the holder has tested to lie in X.
 pub fn write_bits(x: &[u8], start: usize, len: usize, buf: &mut [u8]) -> WriteResult
     requires { ⌜ Part (now x) start len ⌝ }
-    ensures { λ r. ⌜ saidWrite r (now (buf .exit)) ≡ putFront (answerBytes (bitsAnswer (range (now (x .entry)) start len))) (now (buf .entry)) ⌝ }
+    ensures { λ r. ⌜ saidWrite r (now (buf .exit))
+        ≡ putFront (answerBytes (bitsAnswer (range (now (x .entry)) start len))) (now (buf .entry)) ⌝ }
 {
     let size = 1 + (len + 7) / 8;
     if buf.len() < size {

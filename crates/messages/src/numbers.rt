@@ -89,7 +89,7 @@ pub fn number_size(v: u32) -> usize
     5
 }
 
-// A number is written from index `at` on; the answer is the index behind it. The room that it requires was tested for the whole message, so
+// A number is written from index `at` on; the answer is the index behind it. The length that it requires was tested for the whole message, so
 // that a buffer that is too short is left alone.
 pub fn put_number(buf: &mut [u8], at: usize, v: u32) -> usize
     requires { ⌜ at + length (number v) ≤ length (now buf) ⌝ }

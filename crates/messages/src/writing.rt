@@ -24,7 +24,7 @@ fn put_bits_first(x: &[u8], start: usize, len: usize, buf: &mut [u8])
     strings::copy_bits(x, start, len, buf, 0);
 }
 
-// The same from index `at` on. It requires that the bits lie in X and that there is room for them: the writer of an answer has tested both.
+// The same from index `at` on. It requires that the bits lie in X and that the buffer is long enough for them: the writer of an answer has tested both.
 pub fn put_bits(x: &[u8], start: usize, len: usize, buf: &mut [u8], at: usize)
     requires { ⌜ Part (now x) start len ⌝ }
     requires { ⌜ at + bytesFor len ≤ length (now buf) ⌝ }

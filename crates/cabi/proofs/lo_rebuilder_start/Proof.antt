@@ -35,7 +35,7 @@ called c =
       same = new .new .ensures;
       limits = limits-kept if1;
       rule = string-kept (if3 .before);
-      room = (let w = if3 .if3 .left in omega arith);
+      capacity = (let w = if3 .if3 .left in omega arith);
       said = c .rebuilder-start .ensures;
     }
 

@@ -8,6 +8,7 @@ use native.Mathlib.Omega.{arith}
 use native.Mathlib.Decide.{ℕ-discrete, decLt}
 use lib.ListN.{length, getD, List·getD-eq-default}
 use lib.Dec.{leb, eqb}
+use Rattle.strings.specs.Bits.{maxBits}
 use Rattle.strings.specs.laws.PackLaws.{Bytes}
 use Rattle.strings.specs.StringRule.{stringRule}
 use Rattle.strings.specs.laws.RuleLaws.{rule-is}
@@ -26,7 +27,7 @@ use Rattle.ends.specs.laws.Counts.{before-most}
 use Rattle.ends.specs.laws.SoundLaws.{Ordered}
 use Rattle.ends.specs.laws.SoundParts.{Framed, sound-is, OpeningIs, opening-is, PiecesIs, pieces-is, WholeIs, whole-is}
 use Rattle.ends.specs.laws.SoundSteps.{fresh-sound}
-use Rattle.ends.specs.RebuilderCall.{starts, freshRebuilder, takes, Step, Rooms}
+use Rattle.ends.specs.RebuilderCall.{starts, freshRebuilder, takes, Step, Capacities}
 use Rattle.ends.specs.laws.Asking.{call-sound}
 use Rattle.ends.specs.laws.Delivery.{started-is}
 use Rattle.layout.specs.Layout.{rebuilderSize, rebuilderBytes, rebuilderOf, isRebuilder}
@@ -35,10 +36,10 @@ use Rattle.cabi.specs.Calls.{startOnBytes, rebuilderOnBytes}
 
 -- ---- every number of a sound state is below 2^32
 -- a piece of n bits of X and e of Y
-piece-fits : (n e : ℕ) (pc : Piece) → n ≤ 65536 → e ≤ 65536 → pc .x + pc .p ≤ n → pc .y + pc .q ≤ e → PieceFits pc
+piece-fits : (n e : ℕ) (pc : Piece) → n ≤ maxBits → e ≤ maxBits → pc .x + pc .p ≤ n → pc .y + pc .q ≤ e → PieceFits pc
 piece-fits n e pc a b c d = record { x-fits = omega arith; p-fits = omega arith; y-fits = omega arith; q-fits = omega arith }
 
-held-fits : (n e x y w : ℕ) (l : List Piece) → n ≤ 65536 → e ≤ 65536 → Ordered n e x y (held w l) → (i : ℕ) → i < w → PieceFits (getD l i noPiece)
+held-fits : (n e x y w : ℕ) (l : List Piece) → n ≤ maxBits → e ≤ maxBits → Ordered n e x y (held w l) → (i : ℕ) → i < w → PieceFits (getD l i noPiece)
 held-fits n e x y zero l a b o i h = absurd (omega arith)
 held-fits n e x y (suc w) l a b o i h =
     go (ℕ-discrete i w)
@@ -125,22 +126,22 @@ sound-fits st e l =
 
 -- ---- the start and the call
 -- what they leave, whatever follows it, is taken and read as the state
-pub start-carried : (S : Settings) (y : List ℕ) (bits stateRoom room : ℕ) (st : Rebuilder) (m l : List ℕ) → startOnBytes S y bits stateRoom room ≡ starts st m
+pub start-carried : (S : Settings) (y : List ℕ) (bits stateCapacity capacity : ℕ) (st : Rebuilder) (m l : List ℕ) → startOnBytes S y bits stateCapacity capacity ≡ starts st m
     → (isRebuilder (rebuilderBytes st ++ l) ≡ true) × (rebuilderOf (rebuilderBytes st ++ l) ≡ st)
 unfolding startOnBytes
-start-carried S y bits stateRoom room st m l e =
+start-carried S y bits stateCapacity capacity st m l e =
     let t = unless-passed (withinLimits S) BadSetting _ _ e in
     let u = unless-passed (stringRule y bits) BadString _ _ (t .1) in
-    let v = unless-passed (leb rebuilderSize stateRoom) BufferTooShort _ _ (u .1) in
-    let k = started-is S y bits room st m (v .1) in
+    let v = unless-passed (leb rebuilderSize stateCapacity) BufferTooShort _ _ (u .1) in
+    let k = started-is S y bits capacity st m (v .1) in
     let f = fresh-sound S bits (k .limits) (rule-is y bits (k .string) .few) in
     (rebuilder-bytes-front st l, rebuilder-read st l (rw (k .state) (sound-fits (freshRebuilder S bits) (f .0) (f .1))))
 
-pub call-carried : (s y : List ℕ) (bits : ℕ) (msg : List ℕ) (rooms : Rooms) (j : Step) (m l : List ℕ) → Bytes msg → rebuilderOnBytes s y bits msg rooms ≡ takes j m
+pub call-carried : (s y : List ℕ) (bits : ℕ) (msg : List ℕ) (capacities : Capacities) (j : Step) (m l : List ℕ) → Bytes msg → rebuilderOnBytes s y bits msg capacities ≡ takes j m
     → (isRebuilder (rebuilderBytes (j .state) ++ l) ≡ true) × (rebuilderOf (rebuilderBytes (j .state) ++ l) ≡ j .state)
 unfolding rebuilderOnBytes
-call-carried s y bits msg rooms j m l b e =
+call-carried s y bits msg capacities j m l b e =
     let u = unless-passed (stringRule y bits) BadString _ _ e in
     let v = unless-passed (isRebuilder s) OutOfTurn _ _ (u .1) in
-    let f = call-sound (rebuilderOf s) y bits msg rooms j m (rebuilder-pieces s) b (v .1) in
+    let f = call-sound (rebuilderOf s) y bits msg capacities j m (rebuilder-pieces s) b (v .1) in
     (rebuilder-bytes-front (j .state) l, rebuilder-read (j .state) l (sound-fits (j .state) (f .0) (f .1)))

@@ -6,7 +6,7 @@ use Prim.Native.Nat.{ℕ, _+_, _*_, _≤_, _<_}
 use native.Mathlib.Omega.{arith}
 use lib.ListN.{length, drop, length-append, length-take, length-drop}
 use borrow.Author.Tests.{le-leb, lt-leb}
-use Rattle.strings.specs.Bits.{range, atFront}
+use Rattle.strings.specs.Bits.{range, atFront, maxBits}
 use Rattle.strings.specs.laws.PackLaws.{Bytes}
 use Rattle.strings.specs.laws.RangeLaws.{range-length}
 use Rattle.strings.specs.StringRule.{stringRule}
@@ -58,7 +58,7 @@ fresh-carried l = (
 part-most : (l : List Bool) (x p : ℕ) → length (part l x p) ≤ length l
 part-most l x p = let a = length-take p (drop x l) in let b = length-drop x l in omega arith
 
-answer-most : (h key : ℕ) (X : List Bool) (q : Question) → length X ≤ 65536 → length (answerBytes (answer h key X q)) ≤ 65536
+answer-most : (h key : ℕ) (X : List Bool) (q : Question) → length X ≤ maxBits → length (answerBytes (answer h key X q)) ≤ maxBits
 answer-most h key X (AskOpen h′ key′) m = let e = size-answer-most (length X) m in omega arith
 answer-most h key X (AskHash x p) m = let e = hash-answer-most (hash h key (part X x p)) in omega arith
 answer-most h key X (AskSyndrome x p) m =
@@ -71,10 +71,10 @@ answer-most h key X (AskSyndrome x p) m =
     omega arith
 answer-most h key X (AskBits x p) m = let e = bits-answer-size (part X x p) in let k = part-most X x p in omega arith
 
-pub reply-most : (st : Holder) (x : List ℕ) (bits : ℕ) (msg : List ℕ) (room : ℕ) (r : Reply)
-    → holderCall st x bits msg room ≡ value r → length (r .message) ≤ 65536
-reply-most st x bits msg room r e =
-    let k = heard-call st x bits msg room (r .state) (r .message) e in
+pub reply-most : (st : Holder) (x : List ℕ) (bits : ℕ) (msg : List ℕ) (capacity : ℕ) (r : Reply)
+    → holderCall st x bits msg capacity ≡ value r → length (r .message) ≤ maxBits
+reply-most st x bits msg capacity r e =
+    let k = heard-call st x bits msg capacity (r .state) (r .message) e in
     let l = range-length x 0 bits in
     let f = k .few in
     rw (k .sends) (answer-most (st .h) (st .key) (range x 0 bits) (k .q) (omega arith))
@@ -110,7 +110,7 @@ module _ (s reply reply′ : List ℕ) (st : Holder) (out : HolderOut) where
       absurd (no-value (refusalNumber e) (length (r .message)) b)
 
   holder-size : (t : Result Reply) (size : ℕ) → saidHolder out reply′ ≡ leavesHolder st reply t → out .answer ≡ Replied size
-      → ((r : Reply) → t ≡ value r → length (r .message) ≤ 65536) → size ≤ 65536
+      → ((r : Reply) → t ≡ value r → length (r .message) ≤ maxBits) → size ≤ maxBits
   holder-size (refusal number) size k f h =
       let a : answerSaid (out .answer) ≡ refusal number = ap (λ (w : HolderSaid). w .answer) k in
       let b : value size ≡ refusal number = rw f at a in
@@ -169,7 +169,7 @@ module _ (k : HolderCalled) where
   pub answer-declined : {d : Refusal} {r : ℕ} → k .out .answer ≡ Refused d → r ≡ packed (refusal (refusalNumber d)) → record { result = r; state = k .s; reply = k .reply′ } ≡ holderLeaves
   answer-declined {d} a h = (rw h (holder-declined (k .s) (k .reply) (k .reply′) (k .st) (k .out) heard d (k .said) a)) ∙ called
 
-  pub answer-small : {size : ℕ} → k .out .answer ≡ Replied size → size ≤ 65536
+  pub answer-small : {size : ℕ} → k .out .answer ≡ Replied size → size ≤ maxBits
   answer-small {size} a =
       holder-size (k .s) (k .reply) (k .reply′) (k .st) (k .out) heard size (k .said) a (reply-most (k .st) (k .x) (k .bits) (k .msg) (length (k .reply)))
 
@@ -178,14 +178,14 @@ module _ (k : HolderCalled) where
   answer-replied {size} {s′} a h = holder-replied (k .s) (k .reply) (k .reply′) (k .st) (k .out) heard size s′ (k .said) a h ∙ called
 
 -- ---- the bytes carry the state: what a taken call leaves, whatever follows it, is taken and read as its next state
-pub holder-carried : (s x : List ℕ) (bits : ℕ) (msg : List ℕ) (room : ℕ) (next : Holder) (m l : List ℕ) → Bytes s → Bytes msg
-    → holderOnBytes s x bits msg room ≡ replies next m → (isHolder (holderBytes next ++ l) ≡ true) × (holderOf (holderBytes next ++ l) ≡ next)
+pub holder-carried : (s x : List ℕ) (bits : ℕ) (msg : List ℕ) (capacity : ℕ) (next : Holder) (m l : List ℕ) → Bytes s → Bytes msg
+    → holderOnBytes s x bits msg capacity ≡ replies next m → (isHolder (holderBytes next ++ l) ≡ true) × (holderOf (holderBytes next ++ l) ≡ next)
 unfolding holderOnBytes
-holder-carried s x bits msg room next m l b c e =
+holder-carried s x bits msg capacity next m l b c e =
     let u = unless-passed (stringRule x bits) BadString _ _ e in
     let v = unless-passed (isHolder s) OutOfTurn _ _ (u .1) in
-    let o = holder-sound (holderOf s) x bits msg room next m (v .1) in
-    let k = heard-call (holderOf s) x bits msg room next m (v .1) in
+    let o = holder-sound (holderOf s) x bits msg capacity next m (v .1) in
+    let k = heard-call (holderOf s) x bits msg capacity next m (v .1) in
     let q = o .bits in
     let r = o .h-most in
     let w = o .answers-most in
@@ -195,7 +195,7 @@ holder-carried s x bits msg room next m l b c e =
         bits-fits = omega arith;
         h-fits = omega arith;
         answers-fits = omega arith;
-        key-fits = key-small (k .q) i (heard-made (holderOf s) x bits msg room next m k);
+        key-fits = key-small (k .q) i (heard-made (holderOf s) x bits msg capacity next m k);
       }),
     )
   where

@@ -4,6 +4,7 @@ use mathlib.Core.List.{List}
 use mathlib.Core.Option.{Option, none, some}
 use Prim.Native.Nat.{ℕ, _/_, _%_, _≤_, _<_}
 use native.Mathlib.Omega.{arith}
+use Rattle.strings.specs.Bits.{maxBits}
 use Rattle.strings.specs.Results.{Result, refusal, value, mapped}
 use Rattle.codes.specs.Entries.{saidRepair}
 use Rattle.codes.specs.declared.entries.RepairAnswer.{RepairAnswer}
@@ -38,7 +39,7 @@ pub place-fits : (y : List ℕ) (bits start q p s m k : ℕ) (a : List ℕ) → 
 place-fits y bits start q p s m k a = answer-fits (anchorSearch y bits start q p s m k a) (search-most y bits start q p s m k a)
 
 -- ---- for the code
-pub place-small : (a : AnchorAnswer) (r : ℕ) → packed (mapped placeNumber (saidAnchor a)) ≤ 1048592 → a ≡ Placed r → r ≤ 65536
+pub place-small : (a : AnchorAnswer) (r : ℕ) → packed (mapped placeNumber (saidAnchor a)) ≤ 1048592 → a ≡ Placed r → r ≤ maxBits
 unfolding packed
 place-small a r h e = let g = rw e at h in omega arith
 

@@ -25,7 +25,7 @@ use Rattle.strings.specs.declared.settings.Settings.{Settings}
 use Rattle.ends.specs.declared.Rebuilder.{Rebuilder}
 use Rattle.strings.specs.SettingLimits.{withinLimits}
 use Rattle.ends.specs.States.{planned}
-use Rattle.ends.specs.RebuilderCall.{Started, rebuilderStart, Taken, Rooms, rebuilderCall, writtenQuestion, stepOf, stringAfter, rowsNeeded}
+use Rattle.ends.specs.RebuilderCall.{Started, rebuilderStart, Taken, Capacities, rebuilderCall, writtenQuestion, stepOf, stringAfter, rowsNeeded}
 use Rattle.ends.specs.laws.Asking.{TakenCall, taken-call}
 use Rattle.ends.specs.laws.Delivery.{started-is}
 use Rattle.ends.specs.declared.rebuilding.StartAnswer.the-variants.{Begun, NotBegun}
@@ -38,7 +38,7 @@ use Rattle.layout.specs.Layout.{rebuilderSize, rebuilderBytes, rebuilderOf, isR
 use Rattle.layout.specs.laws.LayoutLaws.{length-rebuilder}
 use Rattle.layout.specs.Sheet.{rowSize, sheetBytesAfter}
 use Rattle.cabi.specs.Packing.{packed}
-use Rattle.cabi.specs.Calls.{startOnBytes, StartLeft, startLeft, rebuilderOnBytes, roomsIn, RebuilderLeft, rebuilderLeft}
+use Rattle.cabi.specs.Calls.{startOnBytes, StartLeft, startLeft, rebuilderOnBytes, capacitiesIn, RebuilderLeft, rebuilderLeft}
 
 -- ---- a question has at most 16 bytes, whatever its numbers
 question-most : (q : Question) → length (questionBytes q) ≤ 16
@@ -63,15 +63,15 @@ written-most none = omega arith
 written-most (some q) = question-most q
 
 -- as the one that a taken call writes
-pub taken-small : (st : Rebuilder) (y : List ℕ) (bits : ℕ) (msg : List ℕ) (rooms : Rooms) (t : Taken) → rebuilderCall st y bits msg rooms ≡ value t → length (t .question) ≤ 16
-taken-small st y bits msg rooms t e =
-    let k : TakenCall st y msg rooms (t .step) (t .question) = taken-call st y bits msg rooms (t .step) (t .question) e in
+pub taken-small : (st : Rebuilder) (y : List ℕ) (bits : ℕ) (msg : List ℕ) (capacities : Capacities) (t : Taken) → rebuilderCall st y bits msg capacities ≡ value t → length (t .question) ≤ 16
+taken-small st y bits msg capacities t e =
+    let k : TakenCall st y msg capacities (t .step) (t .question) = taken-call st y bits msg capacities (t .step) (t .question) e in
     rw (k .asks) (written-most (planned (stepOf st y (length msg) (k .a) .state)))
 
 -- ---- the returns of the call
 -- what shall be left
 abbrev pub callLeaves : (s y : List ℕ) (bits : ℕ) (msg string sheet question : List ℕ) → RebuilderLeft
-callLeaves s y bits msg string sheet question = rebuilderLeft s string sheet question (rebuilderOnBytes s y bits msg (roomsIn string sheet question))
+callLeaves s y bits msg string sheet question = rebuilderLeft s string sheet question (rebuilderOnBytes s y bits msg (capacitiesIn string sheet question))
 
 module _ (s y : List ℕ) (bits : ℕ) (msg string sheet question : List ℕ) where
   pub call-bad-string : stringRule y bits ≡ false
@@ -85,7 +85,7 @@ module _ (s y : List ℕ) (bits : ℕ) (msg string sheet question : List ℕ) wh
   call-no-state e f = rw (e, f) refl
 
   rebuilder-called : stringRule y bits ≡ true → isRebuilder s ≡ true
-      → rebuilderOnBytes s y bits msg (roomsIn string sheet question) ≡ rebuilderCall (rebuilderOf s) y bits msg (roomsIn string sheet question)
+      → rebuilderOnBytes s y bits msg (capacitiesIn string sheet question) ≡ rebuilderCall (rebuilderOf s) y bits msg (capacitiesIn string sheet question)
   unfolding rebuilderOnBytes
   rebuilder-called e f = rw (e, f) refl
 
@@ -164,22 +164,22 @@ pub record RebuilderCalled : Type 0 where
   pub rule : stringRule y bits ≡ true
   pub whole : isRebuilder s ≡ true
   pub read : st ≡ rebuilderOf s
-  pub said : saidRebuilder out string′ question′ ≡ leavesRebuilder st string question (rebuilderCall st y bits msg (roomsIn string sheet question))
+  pub said : saidRebuilder out string′ question′ ≡ leavesRebuilder st string question (rebuilderCall st y bits msg (capacitiesIn string sheet question))
 
 module _ (k : RebuilderCalled) where
-  abbrev rooms : Rooms
-  rooms = roomsIn (k .string) (k .sheet) (k .question)
+  abbrev capacities : Capacities
+  capacities = capacitiesIn (k .string) (k .sheet) (k .question)
 
   abbrev pub calledLeaves : RebuilderLeft
   calledLeaves = callLeaves (k .s) (k .y) (k .bits) (k .msg) (k .string) (k .sheet) (k .question)
 
   -- what the call on the state gives
   abbrev heard : Result Taken
-  heard = rebuilderCall (k .st) (k .y) (k .bits) (k .msg) rooms
+  heard = rebuilderCall (k .st) (k .y) (k .bits) (k .msg) capacities
 
   pub call-rows : rowSize * rowsNeeded (k .out .sheet) ≤ length (k .sheet)
   call-rows =
-      let r = change-fits (k .st) (k .y) (k .bits) (k .msg) rooms (k .string) (k .question) (k .string′) (k .question′) (k .out) (k .said) in
+      let r = change-fits (k .st) (k .y) (k .bits) (k .msg) capacities (k .string) (k .question) (k .string′) (k .question′) (k .out) (k .said) in
       omega arith
 
   called : rebuilderLeft (k .s) (k .string) (k .sheet) (k .question) heard ≡ calledLeaves
@@ -194,7 +194,7 @@ module _ (k : RebuilderCalled) where
     pub call-small : askedSize n ≤ 16
     call-small =
         said-small (k .s) (k .string) (k .sheet) (k .question) (k .string′) (k .question′) (k .st) (k .out) n a heard (k .said)
-        (taken-small (k .st) (k .y) (k .bits) (k .msg) rooms)
+        (taken-small (k .st) (k .y) (k .bits) (k .msg) capacities)
 
     pub call-taken : {r : ℕ} {s′ sheet′ : List ℕ} → r ≡ askedSize n * 16 → s′ ≡ rebuilderBytes (k .out .state) ++ drop rebuilderSize (k .s) → sheet′ ≡ sheetBytesAfter (k .sheet) (k .out .sheet)
         → record { result = r; state = s′; string = k .string′; sheet = sheet′; question = k .question′ } ≡ calledLeaves
@@ -279,7 +279,7 @@ pub record StartCalled : Type 0 where
   pub same : given ≡ S
   pub limits : withinLimits S ≡ true
   pub rule : stringRule y bits ≡ true
-  pub room : rebuilderSize ≤ length s
+  pub capacity : rebuilderSize ≤ length s
   pub said : saidStart out question′ ≡ leavesStart question (rebuilderStart given y bits (length question))
 
 module _ (k : StartCalled) where
@@ -299,7 +299,7 @@ module _ (k : StartCalled) where
   startLeaves = startLeft (k .s) (k .question) (startOnBytes (k .S) (k .y) (k .bits) (length (k .s)) (length (k .question)))
 
   began-leaves : startLeft (k .s) (k .question) began ≡ startLeaves
-  began-leaves = sym (rw (started (k .S) (k .y) (k .bits) (k .s) (k .question) (k .limits) (k .rule) (k .room)) refl)
+  began-leaves = sym (rw (started (k .S) (k .y) (k .bits) (k .s) (k .question) (k .limits) (k .rule) (k .capacity)) refl)
 
   pub start-declined : {d : Refusal} {r : ℕ} → k .out .answer ≡ NotBegun d → r ≡ packed (refusal (refusalNumber d)) → record { result = r; state = k .s; question = k .question′ } ≡ startLeaves
   start-declined {d} a i = (rw i (start-declines (k .s) (k .question) (k .question′) (k .out) began d said-began a)) ∙ began-leaves

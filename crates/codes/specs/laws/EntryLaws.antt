@@ -118,21 +118,21 @@ module _ (s : List ℕ) (bits : ℕ) where
     unfolding hashCall
     hash-value v e f g = rw (e, f) (ap value g)
 
-  module _ (n a room : ℕ) where
-    pub repair-bad-string : stringRule s bits ≡ false → repairCall s bits n a room ≡ refusal (refusalNumber BadString)
+  module _ (n a capacity : ℕ) where
+    pub repair-bad-string : stringRule s bits ≡ false → repairCall s bits n a capacity ≡ refusal (refusalNumber BadString)
     unfolding repairCall
     repair-bad-string e = rw e refl
 
     module _ (e : stringRule s bits ≡ true) where
-      pub repair-out-of-range : repairRange bits n a ≡ false → repairCall s bits n a room ≡ refusal (refusalNumber OutOfRange)
+      pub repair-out-of-range : repairRange bits n a ≡ false → repairCall s bits n a capacity ≡ refusal (refusalNumber OutOfRange)
       unfolding repairCall
       repair-out-of-range f = rw (e, f) refl
 
       module _ (f : repairRange bits n a ≡ true) where
-        pub repair-no-room : room < bytesFor n → repairCall s bits n a room ≡ refusal (refusalNumber BufferTooShort)
+        pub repair-too-short : capacity < bytesFor n → repairCall s bits n a capacity ≡ refusal (refusalNumber BufferTooShort)
         unfolding repairCall
-        repair-no-room g = rw (e, f, lt-leb (bytesFor n) room g) refl
+        repair-too-short g = rw (e, f, lt-leb (bytesFor n) capacity g) refl
 
-        pub repair-value : bytesFor n ≤ room → (o : Option (List Bool)) → repairTo n a (range s 0 bits) ≡ o → repairCall s bits n a room ≡ value o
+        pub repair-value : bytesFor n ≤ capacity → (o : Option (List Bool)) → repairTo n a (range s 0 bits) ≡ o → repairCall s bits n a capacity ≡ value o
         unfolding repairCall
-        repair-value g o k = rw (e, f, le-leb (bytesFor n) room g) (ap value k)
+        repair-value g o k = rw (e, f, le-leb (bytesFor n) capacity g) (ap value k)

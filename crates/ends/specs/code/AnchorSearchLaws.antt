@@ -20,12 +20,12 @@ use Rattle.strings.specs.Results.{Result, refusal, value}
 use Rattle.strings.specs.Refusals.{refusalNumber}
 use Rattle.strings.specs.declared.Refusal.the-variants.{BadSetting, BadString, OutOfRange}
 use Rattle.strings.specs.laws.ResultLaws.{by-unless}
-use Rattle.ends.specs.Anchors.{isqrt, distance, away, part, fits, Best, place}
+use Rattle.ends.specs.Anchors.{isqrt, distance, placeDistance, part, fits, Best, place}
 use Rattle.ends.specs.laws.AnchorLaws.{place-best}
 use Rattle.ends.specs.declared.anchors.Place.{Place}
 use Rattle.ends.specs.declared.anchors.Place.the-variants.{At, Nowhere}
 use Rattle.ends.specs.AnchorSearch.{placeIn, anchorSettings, anchorRange, anchorSearch}
-use Rattle.ends.specs.code.Window.{Ready, windowStart, windowEnd}
+use Rattle.ends.specs.code.Window.{Searching, windowStart, windowEnd}
 
 -- ---- the square root: r is the root of n
 abbrev pub Root : ℕ → ℕ → Type 0
@@ -189,7 +189,7 @@ module _ (q p s reach : ℕ) where
   unfolding windowStart
   start-near end h = omega arith
 
-  start-far : (end k : ℕ) → k < windowStart p (2 * s + q) reach end → reach < away p q s k
+  start-far : (end k : ℕ) → k < windowStart p (2 * s + q) reach end → reach < placeDistance p q s k
   unfolding windowStart
   start-far end k h = omega arith
 
@@ -217,10 +217,10 @@ module _ (y : List ℕ) (start : ℕ) (a : List ℕ) (at r : ℕ) where
   pub alike-next : (j : ℕ) (x z : Bool) → x ≡ bitAt y (start + (r + j)) → z ≡ bitAt a (at + j) → not (Bool·beq x z) ≡ false → Alike y start a at r j → Alike y start a at r (j + 1)
   alike-next j x z e f t h = below-more _ j h (sym e ∙ bits-agree x z t ∙ f)
 
-  module _ (q m : ℕ) (room : r + m ≤ q) where
+  module _ (q m : ℕ) (within : r + m ≤ q) where
     alike-same : Alike y start a at r m → sameBits (part (range y start q) r m) (range a at m) ≡ true
     alike-same h =
-        ap (λ (l : List Bool). sameBits l (range a at m)) (range-part y start q r m room ∙ range-equal y a (start + r) at m (λ j l. ap (bitAt y) (omega arith) ∙ h j l))
+        ap (λ (l : List Bool). sameBits l (range a at m)) (range-part y start q r m within ∙ range-equal y a (start + r) at m (λ j l. ap (bitAt y) (omega arith) ∙ h j l))
         ∙ same-refl (range a at m)
 
     unlike-same : (j : ℕ) → j < m → (bitAt y (start + (r + j)) ≡ bitAt a (at + j) → ⊥) → sameBits (part (range y start q) r m) (range a at m) ≡ false
@@ -228,48 +228,48 @@ module _ (y : List ℕ) (start : ℕ) (a : List ℕ) (at r : ℕ) where
       where
         go : (t : Bool) → sameBits (part (range y start q) r m) (range a at m) ≡ t → t ≡ false
         go true e =
-            let z = sym (range-part y start q r m room) ∙ same-is (part (range y start q) r m) (range a at m) e in
+            let z = sym (range-part y start q r m within) ∙ same-is (part (range y start q) r m) (range a at m) e in
             absurd (ne (ap (bitAt y) (omega arith) ∙ sym (range-at y (start + r) m j l) ∙ ap (λ (x : List Bool). getD x j false) z ∙ range-at a at m j l))
         go false e = refl
 
 -- ---- the search of place_anchor, by its parameters: it has looked at the places below r
 abbrev pub Searched : (y : List ℕ) (start q p s m k : ℕ) (a : List ℕ) (at r least best : ℕ) → Type 0
-Searched y start q p s m k a at r least best = Seen (fits m k p s (range y start q) (range a at m)) (away p q s) (2 * k * isqrt q) r least best
+Searched y start q p s m k a at r least best = Seen (fits m k p s (range y start q) (range a at m)) (placeDistance p q s) (2 * k * isqrt q) r least best
 
 module _ (y : List ℕ) (start q p s m k : ℕ) (a : List ℕ) (at : ℕ) where
-  fits-near : (r : ℕ) → fits m k p s (range y start q) (range a at m) r ≡ true → away p q s r ≤ 2 * k * isqrt q
+  fits-near : (r : ℕ) → fits m k p s (range y start q) (range a at m) r ≡ true → placeDistance p q s r ≤ 2 * k * isqrt q
   fits-near r e =
-      leb-true (away p q s r) (2 * k * isqrt q) (and-right (sameBits (part (range y start q) r m) (range a at m)) (leb (away p q s r) (2 * k * isqrt q)) (rw (range-length y start q) at e))
+      leb-true (placeDistance p q s r) (2 * k * isqrt q) (and-right (sameBits (part (range y start q) r m) (range a at m)) (leb (placeDistance p q s r) (2 * k * isqrt q)) (rw (range-length y start q) at e))
 
-  near-fits : (r : ℕ) → sameBits (part (range y start q) r m) (range a at m) ≡ true → away p q s r ≤ 2 * k * isqrt q → fits m k p s (range y start q) (range a at m) r ≡ true
-  near-fits r e l = rw (e, range-length y start q) (le-leb (away p q s r) (2 * k * isqrt q) l)
+  near-fits : (r : ℕ) → sameBits (part (range y start q) r m) (range a at m) ≡ true → placeDistance p q s r ≤ 2 * k * isqrt q → fits m k p s (range y start q) (range a at m) r ≡ true
+  near-fits r e l = rw (e, range-length y start q) (le-leb (placeDistance p q s r) (2 * k * isqrt q) l)
 
   pub search-start : (end : ℕ) → Searched y start q p s m k a at (windowStart p (2 * s + q) (2 * k * isqrt q) end) (2 * k * isqrt q + 1) 0
   search-start end = seen-none _ _ _ (windowStart p (2 * s + q) (2 * k * isqrt q) end) (start-far q p s (2 * k * isqrt q) end)
 
   -- a place whose bits differ, and one that is the best so far
   module _ (r least best : ℕ) (h : Searched y start q p s m k a at r least best) where
-    module _ (room : r + m ≤ q) where
+    module _ (within : r + m ≤ q) where
       pub search-differs : (j : ℕ) (x z : Bool) → j < m → x ≡ bitAt y (start + (r + j)) → z ≡ bitAt a (at + j) → not (Bool·beq x z) ≡ true → Searched y start q p s m k a at (r + 1) least best
       search-differs j x z l e f t =
-          let u = unlike-same y start a at r q m room j l (λ i. bits-differ x z t (e ∙ i ∙ sym f)) in
+          let u = unlike-same y start a at r q m within j l (λ i. bits-differ x z t (e ∙ i ∙ sym f)) in
           seen-on _ _ _ r least best (λ i. absurd (true-false (sym (and-left _ _ i) ∙ u))) h
 
       pub search-agrees : (d : ℕ) → d ≡ distance (2 * r + p) (2 * s + q) → d < least → Alike y start a at r m → Searched y start q p s m k a at (r + 1) d r
       search-agrees d e l f =
-          rw e (seen-best _ _ _ r least best (near-fits r (alike-same y start a at r q m room f) (let g = h .bound in omega arith)) (rw (← e) l) h)
+          rw e (seen-best _ _ _ r least best (near-fits r (alike-same y start a at r q m within f) (let g = h .bound in omega arith)) (rw (← e) l) h)
 
   -- at the window's end
-  best-of : Best (fits m k p s (range y start q) (range a at m)) (away p q s) 0 (q + 1 - m) (place m k p s (range y start q) (range a at m))
+  best-of : Best (fits m k p s (range y start q) (range a at m)) (placeDistance p q s) 0 (q + 1 - m) (place m k p s (range y start q) (range a at m))
   best-of =
-      subst (λ (n : ℕ). Best (fits m k p s (range y start q) (range a at m)) (away p n s) 0 (n + 1 - m) (place m k p s (range y start q) (range a at m))) (range-length y start q)
+      subst (λ (n : ℕ). Best (fits m k p s (range y start q) (range a at m)) (placeDistance p n s) 0 (n + 1 - m) (place m k p s (range y start q) (range a at m))) (range-length y start q)
       (place-best m k p s (range y start q) (range a at m))
 
   module _ (r least best : ℕ) (h : Searched y start q p s m k a at r least best) (few : r ≤ q + 1 - m) (done : windowEnd q m p (2 * s + q) least ≤ r) where
     search-end : Searched y start q p s m k a at (q + 1 - m) least best
     search-end = seen-end _ _ _ r (q + 1 - m) least best few passed h
       where
-        passed : (i : ℕ) → r ≤ i → i < q + 1 - m → fits m k p s (range y start q) (range a at m) i ≡ true → (least ≤ away p q s i) × (least ≡ away p q s i → best ≤ i)
+        passed : (i : ℕ) → r ≤ i → i < q + 1 - m → fits m k p s (range y start q) (range a at m) i ≡ true → (least ≤ placeDistance p q s i) × (least ≡ placeDistance p q s i → best ≤ i)
         passed i g l t =
             let f = end-far q m p s least i (omega arith) l in
             let n = fits-near i t in
@@ -353,7 +353,7 @@ module _ (y : List ℕ) (bits start q p s m k : ℕ) (a : List ℕ) where
         out-of-range h = rw (e, f, g, h) refl
 
         module _ (h : anchorRange bits start q p s m ≡ true) where
-          pub tested-ready : Ready y start q p s m k a 0
+          pub tested-ready : Searching y start q p s m k a 0
           unfolding anchorSettings anchorRange
           tested-ready =
               let em = and-left (leb 8 m && leb m 64) (leb 1 k && leb k 8) e in
@@ -407,6 +407,6 @@ module _ (y : List ℕ) (bits start q p s m k : ℕ) (a : List ℕ) where
       by-unless AnswerMost (anchorRange bits start q p s m) OutOfRange (omega arith) (λ h.
       go (tested-ready e (and-left (stringRule y bits) (stringRule a m) f) (and-right (stringRule y bits) (stringRule a m) f) h .few) (place m k p s (range y start q) (range a 0 m)) (best-of y start q p s m k a 0))))
     where
-      go : start + q ≤ maxBits → (o : Option ℕ) → Best (fits m k p s (range y start q) (range a 0 m)) (away p q s) 0 (q + 1 - m) o → AnswerMost (value o)
+      go : start + q ≤ maxBits → (o : Option ℕ) → Best (fits m k p s (range y start q) (range a 0 m)) (placeDistance p q s) 0 (q + 1 - m) o → AnswerMost (value o)
       go few none b = tt
       go few (some r) b = let c = b .1 in omega arith

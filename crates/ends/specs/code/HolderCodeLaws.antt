@@ -46,10 +46,10 @@ use Rattle.ends.specs.HolderOutcome.{HolderSaid, saidHolder, leavesHolde
 use Rattle.ends.specs.code.HolderParts.{refused, written, openedWith, oneMore, Answers, Able, Ready}
 
 -- ---- a call that is turned down, and one that writes its answer
-pub refused-said : {st : Holder} {e : Refusal} {r : HolderOut} (reply : List ℕ) {heard : Result Reply} → r ≡ refused st e → heard ≡ refusal (refusalNumber e) → saidHolder r reply ≡ leavesHolder st reply heard
-refused-said {st} reply f g = ap (λ (o : HolderOut). saidHolder o reply) f ∙ ap (leavesHolder st reply) (sym g)
+pub refused-holder : {st : Holder} {e : Refusal} {r : HolderOut} (reply : List ℕ) {heard : Result Reply} → r ≡ refused st e → heard ≡ refusal (refusalNumber e) → saidHolder r reply ≡ leavesHolder st reply heard
+refused-holder {st} reply f g = ap (λ (o : HolderOut). saidHolder o reply) f ∙ ap (leavesHolder st reply) (sym g)
 
--- by what writing the answer left: the state becomes `next` if there was room
+-- by what writing the answer left: the state becomes `next` if the buffer was long enough
 abbrev stateFor : (st next : Holder) → Result ℕ → Holder
 stateFor st next (refusal number) = st
 stateFor st next (value size) = next
@@ -160,35 +160,35 @@ module _ (st : Holder) (x : List ℕ) (bits : ℕ) where
     left = ltb-true (st .answers) mostAnswers (and-right (holderSound st) (ltb (st .answers) mostAnswers) b);
   }
 
-  module _ (msg : List ℕ) (room : ℕ) where
-    pub call-bad-string : stringRule x bits && sameBitCount st bits ≡ false → holderCall st x bits msg room ≡ refusal (refusalNumber BadString)
+  module _ (msg : List ℕ) (capacity : ℕ) where
+    pub call-bad-string : stringRule x bits && sameBitCount st bits ≡ false → holderCall st x bits msg capacity ≡ refusal (refusalNumber BadString)
     unfolding holderCall
     call-bad-string a = rw a refl
 
-    pub call-out-of-turn : stringRule x bits && sameBitCount st bits ≡ true → holderSound st && ltb (st .answers) mostAnswers ≡ false → holderCall st x bits msg room ≡ refusal (refusalNumber OutOfTurn)
+    pub call-out-of-turn : stringRule x bits && sameBitCount st bits ≡ true → holderSound st && ltb (st .answers) mostAnswers ≡ false → holderCall st x bits msg capacity ≡ refusal (refusalNumber OutOfTurn)
     unfolding holderCall
     call-out-of-turn a b = rw (a, b) refl
 
     -- the kind was not read, or was
     pub call-no-kind : {k : KindRead} {e : Refusal} → stringRule x bits && sameBitCount st bits ≡ true → holderSound st && ltb (st .answers) mostAnswers ≡ true
-        → saidKind k ≡ kindAt msg → k ≡ NoKind e → holderCall st x bits msg room ≡ refusal (refusalNumber e)
+        → saidKind k ≡ kindAt msg → k ≡ NoKind e → holderCall st x bits msg capacity ≡ refusal (refusalNumber e)
     unfolding holderCall
     call-no-kind a b e f = rw (a, b, ← e, f) refl
 
     pub call-kind : {k : KindRead} {kind : Kind} {at : ℕ} → stringRule x bits && sameBitCount st bits ≡ true → holderSound st && ltb (st .answers) mostAnswers ≡ true
-        → saidKind k ≡ kindAt msg → k ≡ Known kind at → holderCall st x bits msg room ≡ ofKind st x bits msg room kind at
+        → saidKind k ≡ kindAt msg → k ≡ Known kind at → holderCall st x bits msg capacity ≡ ofKind st x bits msg capacity kind at
     unfolding holderCall
     call-kind a b e f = rw (a, b, ← e, f) refl
 
     module _ (k : Kind) (at : ℕ) where
-      pub kind-out-of-turn : inTurn (st .opened) k ≡ false → ofKind st x bits msg room k at ≡ refusal (refusalNumber OutOfTurn)
+      pub kind-out-of-turn : inTurn (st .opened) k ≡ false → ofKind st x bits msg capacity k at ≡ refusal (refusalNumber OutOfTurn)
       kind-out-of-turn t = rw t refl
 
       -- so were the fields
-      pub kind-no-fields : {q : QuestionRead} {e : Refusal} → inTurn (st .opened) k ≡ true → saidQuestion q ≡ fieldsAt k msg at bits → q ≡ NoQuestion e → ofKind st x bits msg room k at ≡ refusal (refusalNumber e)
+      pub kind-no-fields : {q : QuestionRead} {e : Refusal} → inTurn (st .opened) k ≡ true → saidQuestion q ≡ fieldsAt k msg at bits → q ≡ NoQuestion e → ofKind st x bits msg capacity k at ≡ refusal (refusalNumber e)
       kind-no-fields t e f = rw (t, ← e, f) refl
 
-      pub kind-fields : {q : QuestionRead} {q′ : Question} → inTurn (st .opened) k ≡ true → saidQuestion q ≡ fieldsAt k msg at bits → q ≡ Asked q′ → ofKind st x bits msg room k at ≡ answersTo st x bits room q′
+      pub kind-fields : {q : QuestionRead} {q′ : Question} → inTurn (st .opened) k ≡ true → saidQuestion q ≡ fieldsAt k msg at bits → q ≡ Asked q′ → ofKind st x bits msg capacity k at ≡ answersTo st x bits capacity q′
       kind-fields t e f = rw (t, ← e, f) refl
 
   module _ (msg : List ℕ) (k : Kind) (at : ℕ) {p : QuestionRead} {q : Question} where

@@ -1,8 +1,12 @@
 -- What the parts of the holder's call give and require.
 use mathlib.Core.Path.{_≡_}
-use mathlib.Core.Bool.{true}
+use mathlib.Core.Bool.{Bool, true}
 use mathlib.Core.List.{List}
 use Prim.Native.Nat.{ℕ, _+_, _≤_, _<_}
+use lib.ListN.{length}
+use Rattle.codes.specs.Hash.{hash}
+use Rattle.codes.specs.Syndrome.{syndrome}
+use Rattle.messages.specs.Answers.{Answer, hashAnswer, syndromeAnswer, answerBytes}
 use Rattle.strings.specs.Bits.{Part}
 use Rattle.strings.specs.StringRule.{stringRule}
 use Rattle.strings.specs.declared.Refusal.{Refusal}
@@ -13,6 +17,8 @@ use Rattle.messages.specs.declared.WriteResult.the-variants.{Written, TooShort}
 use Rattle.messages.specs.laws.QuestionLaws.{Within}
 use Rattle.ends.specs.declared.Holder.{Holder}
 use Rattle.ends.specs.Soundness.{holderSound, mostAnswers}
+use Rattle.ends.specs.HolderCall.{sends}
+use Rattle.ends.specs.HolderOutcome.{HolderSaid, leavesHolder}
 use Rattle.ends.specs.declared.answering.HolderAnswer.the-variants.{Replied, Refused}
 use Rattle.ends.specs.declared.answering.HolderOut.{HolderOut}
 
@@ -33,6 +39,17 @@ openedWith n h key = record { opened = true; bits = n; h = h; key = key; answers
 -- the state after another answer
 abbrev pub oneMore : Holder → Holder
 oneMore st = record { opened = st .opened; bits = st .bits; h = st .h; key = st .key; answers = st .answers + 1 }
+
+-- the answers for a piece l
+abbrev pub hashReply : Holder → List Bool → Answer
+hashReply st l = hashAnswer (hash (st .h) (st .key) l)
+
+abbrev pub syndromeReply : Holder → List Bool → Answer
+syndromeReply st l = syndromeAnswer (syndrome l) (hash (st .h) (st .key) l)
+
+-- what sending the answer a, with the state next after it, leaves
+abbrev pub replyOutcome : (st next : Holder) → Answer → (reply : List ℕ) → HolderSaid
+replyOutcome st next a reply = leavesHolder st reply (sends (length reply) next (answerBytes a))
 
 -- ---- what is required
 -- the range lies in x, the hash has a width that a number holds, and an answer is left

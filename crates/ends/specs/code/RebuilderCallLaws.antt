@@ -40,7 +40,7 @@ use Rattle.ends.specs.declared.SheetChange.the-variants.{NoRow, OneRow}
 use Rattle.strings.specs.SettingLimits.{withinLimits}
 use Rattle.ends.specs.Segments.{row, asks}
 use Rattle.ends.specs.Runs.{sizeOf}
-use Rattle.ends.specs.laws.Shape.{Proper, Inside, sizes, size-bits}
+use Rattle.ends.specs.laws.Shape.{ProperFor, Inside, sizes, size-bits}
 use Rattle.strings.specs.laws.SettingLaws.{limits-is}
 use Rattle.strings.specs.SettingLimits.{Limits}
 use Rattle.ends.specs.laws.Right.{StageOk}
@@ -50,14 +50,14 @@ use Rattle.ends.specs.Soundness.{sound, openingSound, phaseSound}
 use Rattle.ends.specs.laws.SoundParts.{Framed, sound-is, phase-whole, OpeningIs, opening-is, WholeIs, whole-is, PiecesIs, top-is, ask-inside, PhaseOf, isOpening, isPieces, isWhole, phase-of}
 use Rattle.ends.specs.laws.SoundSteps.{fresh-sound, opening-sound, whole-sound}
 use Rattle.ends.specs.laws.Steps.{step-opening, step-whole}
-use Rattle.ends.specs.RebuilderCall.{bitsKnown, Taken, openingStep, wholeState, wholeStep, stepOf, questionLength, Rooms, roomFor, awaits, rebuilderCall, starts, rebuilderStart, freshRebuilder, given, Started}
+use Rattle.ends.specs.RebuilderCall.{bitsKnown, Taken, openingStep, wholeState, wholeStep, stepOf, questionLength, Capacities, enoughFor, awaits, rebuilderCall, starts, rebuilderStart, freshRebuilder, given, Started}
 use Rattle.ends.specs.declared.rebuilding.RebuilderOut.{RebuilderOut}
 use Rattle.ends.specs.declared.rebuilding.StartAnswer.the-variants.{Begun, NotBegun}
 use Rattle.ends.specs.declared.rebuilding.StartOut.{StartOut}
 use Rattle.ends.specs.code.StateCode.{Usable, Counts}
 use Rattle.ends.specs.code.SoundLaws.{sound-counts}
 use Rattle.ends.specs.RebuilderOutcome.{RebuilderSaid, saidRebuilder, leavesRebuilder, noRebuilder, saidStart, leavesStart}
-use Rattle.ends.specs.code.RebuilderParts.{OutIs, Acting, AsksBits, RepairDue, putsIn, takesOut, bitsOfStage, stepTaken, Opening, WholeDue, BitsDue, dueLength, Due, answerRoom, heardStep, turnedDown}
+use Rattle.ends.specs.code.RebuilderParts.{OutIs, Acting, AsksBits, RepairDue, putsIn, takesOut, bitsOfStage, stepTaken, Opening, WholeDue, BitsDue, dueLength, Due, enoughForAnswer, heardStep, turnedDown}
 use Rattle.ends.specs.code.RebuilderCodeLaws.{out-said, step-said, size-most, question-short}
 use Rattle.ends.specs.declared.Stage.{Stage}
 use Rattle.ends.specs.declared.Stage.the-variants.{Hashing, PuttingIn, TakingOut, Anchor, AllBits}
@@ -65,7 +65,7 @@ use Rattle.ends.specs.declared.Phase.{Phase}
 use Rattle.ends.specs.declared.Phase.the-variants.{AtOpening, AtPieces, AtWhole}
 
 -- ---- the whole string
-module _ (st : Rebuilder) (size room : ℕ) (k : WholeDue st size room) where
+module _ (st : Rebuilder) (size capacity : ℕ) (k : WholeDue st size capacity) where
   whole-framed : Framed st
   whole-framed = sound-is st (k .sound-now) .0
 
@@ -92,7 +92,7 @@ module _ (st : Rebuilder) (size room : ℕ) (k : WholeDue st size room) where
       (out-said st (wholeStep st size l) buf (subst (λ (z : Rebuilder). OutIs r z (OneRow (st .rows) (row 0 (st .n) ByBits)) q q′) g o) w)
 
 -- ---- the opening's answer
-module _ (st : Rebuilder) (n room : ℕ) (k : Opening st n room) where
+module _ (st : Rebuilder) (n capacity : ℕ) (k : Opening st n capacity) where
   opening-framed : Framed st
   opening-framed = sound-is st (k .sound-now) .0
 
@@ -126,25 +126,25 @@ pub whole-pieces : {ph : Phase} → ph ≡ AtWhole → ph ≡ AtPieces → ⊥
 whole-pieces e f = let z : _≡_ {A = ℕ} 0 1 = cc in omega arith
 
 -- ---- bits
-module _ (st : Rebuilder) (size room : ℕ) (k : BitsDue st size room) where
-  pub bits-whole : st .phase ≡ AtWhole → WholeDue st size room
+module _ (st : Rebuilder) (size capacity : ℕ) (k : BitsDue st size capacity) where
+  pub bits-whole : st .phase ≡ AtWhole → WholeDue st size capacity
   bits-whole e = go (k .phases)
     where
-      go : (WholeDue st size room) ⊎ (Acting st size room × AsksBits (st .stage)) → WholeDue st size room
+      go : (WholeDue st size capacity) ⊎ (Acting st size capacity × AsksBits (st .stage)) → WholeDue st size capacity
       go (inl w) = w
       go (inr a) = absurd (whole-pieces e (a .0 .phase))
 
-  pub bits-acting : st .phase ≡ AtPieces → Acting st size room × AsksBits (st .stage)
+  pub bits-acting : st .phase ≡ AtPieces → Acting st size capacity × AsksBits (st .stage)
   bits-acting e = go (k .phases)
     where
-      go : (WholeDue st size room) ⊎ (Acting st size room × AsksBits (st .stage)) → Acting st size room × AsksBits (st .stage)
+      go : (WholeDue st size capacity) ⊎ (Acting st size capacity × AsksBits (st .stage)) → Acting st size capacity × AsksBits (st .stage)
       go (inl w) = absurd (whole-pieces (w .phase) e)
       go (inr a) = a
 
   pub bits-opening : st .phase ≡ AtOpening → ⊥
   bits-opening e = go (k .phases)
     where
-      go : (WholeDue st size room) ⊎ (Acting st size room × AsksBits (st .stage)) → ⊥
+      go : (WholeDue st size capacity) ⊎ (Acting st size capacity × AsksBits (st .stage)) → ⊥
       go (inl w) = whole-opening (w .phase) e
       go (inr a) = pieces-opening (a .0 .phase) e
 
@@ -199,12 +199,12 @@ kind-due st q L (isOpening p i e) = rw (← e) p
 kind-due st q L (isPieces p i w e) = subst (AskDue st q) e (piece-due st q L (record { phase = p; pieces = i; some = w; asked = e }))
 kind-due st q L (isWhole p i e) = rw (← e) (due-whole st p, inl p)
 
--- ---- lent room
-pub room-bits : (n k : ℕ) → bytesFor n ≤ k → n ≤ 8 * k
-room-bits n k h = omega arith
+-- ---- lengths of lent buffers
+pub enough-bits : (n k : ℕ) → bytesFor n ≤ k → n ≤ 8 * k
+enough-bits n k h = omega arith
 
-pub room-enough : (st : Rebuilder) (n : ℕ) (r : Rooms) → roomFor st n r ≡ true → (bytesFor n ≤ r .string) × (8 ≤ r .question)
-room-enough st n r e =
+pub enough-is : (st : Rebuilder) (n : ℕ) (r : Capacities) → enoughFor st n r ≡ true → (bytesFor n ≤ r .string) × (8 ≤ r .question)
+enough-is st n r e =
     let a = and-left (leb (bytesFor n) (r .string)) _ e in
     let b = and-right (leb (bytesFor n) (r .string)) _ e in
     (leb-true (bytesFor n) (r .string) a, leb-true 8 (r .question) (and-right (leb (2 * (n / st .settings .m) + 1) (r .sheet)) _ b))
@@ -218,7 +218,7 @@ module _ (st : Rebuilder) (msg : List ℕ) (len : ℕ) (read : AnswerRead) (d : 
     read-value : readAnswer (questionKind (d .question)) (questionLength (d .question)) (st .settings .h) msg ≡ value a
     read-value = sym (d .read-is) ∙ v
 
-    proper-now : Proper (st .settings) (d .question) a
+    proper-now : ProperFor (st .settings) (d .question) a
     proper-now = answer-form (questionKind (d .question)) (questionLength (d .question)) (st .settings .h) msg a read-value .proper
 
     kind-now : KindDue st (d .question) (questionLength (d .question)) (answerKind a)
@@ -229,30 +229,30 @@ module _ (st : Rebuilder) (msg : List ℕ) (len : ℕ) (read : AnswerRead) (d : 
     size-now = ap length (answer-form (questionKind (d .question)) (questionLength (d .question)) (st .settings .h) msg a read-value .bytes (d .bytes))
 
     -- for the leftmost piece
-    piece-acting : ForPiece st (d .question) → (room : ℕ) → 8 ≤ room → Acting st (length msg) room
-    piece-acting k room h =
+    piece-acting : ForPiece st (d .question) → (capacity : ℕ) → 8 ≤ capacity → Acting st (length msg) capacity
+    piece-acting k capacity h =
         let ti = top-is st (k .pieces .stack) (k .some) in
         let ins : Inside (st .n) (d .question) = rw (k .asked) at (ask-inside st (framed-now .limits) ti) in
         let sh = sizes (st .settings) (st .n) (framed-now .size) (d .question) a ins proper-now in
         let z = size-now in
         record { sound-now = d .sound-now; array = d .array; phase = k .phase; some = k .some; short = omega arith; enough = h }
 
-  pub heard-size : (n : ℕ) → read ≡ IsSize n → (room : ℕ) → 8 ≤ room → Opening st n room
-  heard-size n f room h =
+  pub heard-size : (n : ℕ) → read ≡ IsSize n → (capacity : ℕ) → 8 ≤ capacity → Opening st n capacity
+  heard-size n f capacity h =
       let v = ap (saidAnswer msg len) f in
       record { sound-now = d .sound-now; array = d .array; phase = kind-now (sizeAnswer n) v; small = proper-now (sizeAnswer n) v .values; enough = h }
 
-  pub heard-hash : (v : ℕ) → read ≡ IsHash v → (room : ℕ) → 8 ≤ room → Acting st (length msg) room × ((st .stage ≡ Hashing) × (top st .q ≡ top st .p))
-  heard-hash v f room h =
+  pub heard-hash : (v : ℕ) → read ≡ IsHash v → (capacity : ℕ) → 8 ≤ capacity → Acting st (length msg) capacity × ((st .stage ≡ Hashing) × (top st .q ≡ top st .p))
+  heard-hash v f capacity h =
       let w = ap (saidAnswer msg len) f in
       let k = kind-now (hashAnswer v) w in
-      (piece-acting (hashAnswer v) w (k .0) room h, (k .1, k .2))
+      (piece-acting (hashAnswer v) w (k .0) capacity h, (k .1, k .2))
 
-  pub heard-syndrome : (a v : ℕ) → read ≡ IsSyndrome a v → (room : ℕ) → 8 ≤ room → Acting st (length msg) room × RepairDue st
-  heard-syndrome a v f room h =
+  pub heard-syndrome : (a v : ℕ) → read ≡ IsSyndrome a v → (capacity : ℕ) → 8 ≤ capacity → Acting st (length msg) capacity × RepairDue st
+  heard-syndrome a v f capacity h =
       let w = ap (saidAnswer msg len) f in
       let k = kind-now (syndromeAnswer a v) w in
-      (piece-acting (syndromeAnswer a v) w (k .0) room h, k .1)
+      (piece-acting (syndromeAnswer a v) w (k .0) capacity h, k .1)
 
   -- the bits that were read
   module _ (at : ℕ) (f : read ≡ IsBits at) where
@@ -262,17 +262,17 @@ module _ (st : Rebuilder) (msg : List ℕ) (len : ℕ) (read : AnswerRead) (d : 
     bits-due : (dueLength st ≡ len) × ((st .phase ≡ AtWhole) ⊎ (ForPiece st (d .question) × AsksBits (st .stage)))
     bits-due = rw (d .asked-length) (kind-now bitsHeard (ap (saidAnswer msg len) f))
 
-    pub heard-bits : (room : ℕ) → 8 ≤ room → BitsDue st (length msg) room × (dueLength st ≡ len)
-    heard-bits room h = (record { phases = go (bits-due .1) }, bits-due .0)
+    pub heard-bits : (capacity : ℕ) → 8 ≤ capacity → BitsDue st (length msg) capacity × (dueLength st ≡ len)
+    heard-bits capacity h = (record { phases = go (bits-due .1) }, bits-due .0)
       where
-        go : (st .phase ≡ AtWhole) ⊎ (ForPiece st (d .question) × AsksBits (st .stage)) → (WholeDue st (length msg) room) ⊎ (Acting st (length msg) room × AsksBits (st .stage))
+        go : (st .phase ≡ AtWhole) ⊎ (ForPiece st (d .question) × AsksBits (st .stage)) → (WholeDue st (length msg) capacity) ⊎ (Acting st (length msg) capacity × AsksBits (st .stage))
         go (inl p) =
             let e : st .n ≡ len = sym (due-whole st p) ∙ bits-due .0 in
             let r = range-length msg (8 * at) len in
             let q = size-now bitsHeard (ap (saidAnswer msg len) f) in
             let u = size-bits (range msg (8 * at) len) in
             inl record { sound-now = d .sound-now; phase = p; short = omega arith; enough = h }
-        go (inr k) = inr (piece-acting bitsHeard (ap (saidAnswer msg len) f) (k .0) room h, k .1)
+        go (inr k) = inr (piece-acting bitsHeard (ap (saidAnswer msg len) f) (k .0) capacity h, k .1)
 
     bits-there : BitsAt len msg at
     bits-there = bits-read msg len at (d .bits-there) f
@@ -303,12 +303,12 @@ module _ (st : Rebuilder) (msg : List ℕ) (len : ℕ) (read : AnswerRead) (d : 
       let r : range (take (length msg - at) (drop at msg)) 0 (dueLength st) ≡ range msg (8 * at) len = ap₂ (λ (t : List ℕ) (i : ℕ). range t 0 i) (rest-whole at) e ∙ sym (range-rest msg at len (bits-inside at f)) in
       read-said f y s q (g ∙ ap (λ (l : List Bool). leavesRebuilder st s q (stepTaken (stepOf st y (length msg) (bitsAnswer l)))) r)
 
-  -- ---- in lent room
+  -- ---- in lent buffers
   -- the bits that the call counts its buffers by
   size-known : (n : ℕ) → read ≡ IsSize n → bitsKnown st (sizeAnswer n) ≡ n
   size-known n f = rw (heard-size n f 8 (omega arith) .phase) refl
 
-  later-known : {size room : ℕ} (a : Answer) → Acting st size room → bitsKnown st a ≡ st .n
+  later-known : {size capacity : ℕ} (a : Answer) → Acting st size capacity → bitsKnown st a ≡ st .n
   later-known a k = rw (k .phase) refl
 
   hash-known : (v : ℕ) → read ≡ IsHash v → bitsKnown st (hashAnswer v) ≡ st .n
@@ -324,38 +324,38 @@ module _ (st : Rebuilder) (msg : List ℕ) (len : ℕ) (read : AnswerRead) (d : 
       go (inl w) = rw (w .phase) refl
       go (inr a) = later-known (bitsAnswer l) (a .0)
 
-  pub hears-short : (y : List ℕ) (r : Rooms) → answerRoom st r read ≡ false → andThen (saidAnswer msg len read) (given st y msg r) ≡ refusal (refusalNumber BufferTooShort)
+  pub hears-short : (y : List ℕ) (r : Capacities) → enoughForAnswer st r read ≡ false → andThen (saidAnswer msg len read) (given st y msg r) ≡ refusal (refusalNumber BufferTooShort)
   hears-short y r e = go read refl e
     where
-      go : (x : AnswerRead) → read ≡ x → answerRoom st r x ≡ false → andThen (saidAnswer msg len x) (given st y msg r) ≡ refusal (refusalNumber BufferTooShort)
+      go : (x : AnswerRead) → read ≡ x → enoughForAnswer st r x ≡ false → andThen (saidAnswer msg len x) (given st y msg r) ≡ refusal (refusalNumber BufferTooShort)
       go (IsSize n) f e = rw (size-known n f, e) refl
       go (IsHash v) f e = rw (hash-known v f, e) refl
       go (IsSyndrome a v) f e = rw (syndrome-known a v f, e) refl
       go (IsBits at) f e = rw (bits-known at (range msg (8 * at) len) f, e) refl
       go (NoAnswer x) f e = absurd (true-false e)
 
-  pub hears-long : (y : List ℕ) (r : Rooms) → answerRoom st r read ≡ true → andThen (saidAnswer msg len read) (given st y msg r) ≡ heardStep st y msg len read
+  pub hears-long : (y : List ℕ) (r : Capacities) → enoughForAnswer st r read ≡ true → andThen (saidAnswer msg len read) (given st y msg r) ≡ heardStep st y msg len read
   hears-long y r e = go read refl e
     where
-      go : (x : AnswerRead) → read ≡ x → answerRoom st r x ≡ true → andThen (saidAnswer msg len x) (given st y msg r) ≡ heardStep st y msg len x
+      go : (x : AnswerRead) → read ≡ x → enoughForAnswer st r x ≡ true → andThen (saidAnswer msg len x) (given st y msg r) ≡ heardStep st y msg len x
       go (IsSize n) f e = rw (size-known n f, e) refl
       go (IsHash v) f e = rw (hash-known v f, e) refl
       go (IsSyndrome a v) f e = rw (syndrome-known a v f, e) refl
       go (IsBits at) f e = rw (bits-known at (range msg (8 * at) len) f, e) refl
       go (NoAnswer x) f e = refl
 
-  pub enough-for : (r : Rooms) → answerRoom st r read ≡ true → {b : AnswerRead} → read ≡ b → answerRoom st r b ≡ true
-  enough-for r e f = sym (ap (answerRoom st r) f) ∙ e
+  pub enough-for : (r : Capacities) → enoughForAnswer st r read ≡ true → {b : AnswerRead} → read ≡ b → enoughForAnswer st r b ≡ true
+  enough-for r e f = sym (ap (enoughForAnswer st r) f) ∙ e
 
-pub whole-small : (st : Rebuilder) (size room : ℕ) → BitsDue st size room → size < 4294967296
-whole-small st size room k = go (k .phases)
+pub whole-small : (st : Rebuilder) (size capacity : ℕ) → BitsDue st size capacity → size < 4294967296
+whole-small st size capacity k = go (k .phases)
   where
-    go : (WholeDue st size room) ⊎ (Acting st size room × AsksBits (st .stage)) → size < 4294967296
+    go : (WholeDue st size capacity) ⊎ (Acting st size capacity × AsksBits (st .stage)) → size < 4294967296
     go (inl w) = let s = w .short in let n = sound-is st (w .sound-now) .0 .size in omega arith
-    go (inr a) = let s = size-most st size room (a .0) in omega arith
+    go (inr a) = let s = size-most st size capacity (a .0) in omega arith
 
-pub acting-small : (st : Rebuilder) (size room : ℕ) → Acting st size room → size < 4294967296
-acting-small st size room k = let s = size-most st size room k in omega arith
+pub acting-small : (st : Rebuilder) (size capacity : ℕ) → Acting st size capacity → size < 4294967296
+acting-small st size capacity k = let s = size-most st size capacity k in omega arith
 
 -- ---- the message for the question that waits
 module _ (st : Rebuilder) (msg : List ℕ) (q : Question) (len : ℕ) (kind : Kind) (read : AnswerRead) (ln : len ≡ questionLength q) (kn : kind ≡ questionKind q)
@@ -366,7 +366,7 @@ module _ (st : Rebuilder) (msg : List ℕ) (q : Question) (len : ℕ) (kind : Ki
   pub due : sound st ≡ true → planned st ≡ some q → length (st .pieces) ≡ 32 → Bytes msg → BitsThere msg len read → Due st msg len read
   due s p a b t = record { sound-now = s; array = a; bytes = b; question = q; asked = p; asked-length = ln; read-is = read-for; bits-there = t }
 
-  pub awaits-hears : (y : List ℕ) (r : Rooms) → awaits st y msg r (some q) ≡ andThen (saidAnswer msg len read) (given st y msg r)
+  pub awaits-hears : (y : List ℕ) (r : Capacities) → awaits st y msg r (some q) ≡ andThen (saidAnswer msg len read) (given st y msg r)
   awaits-hears y r = ap (λ (z : Result Answer). andThen z (given st y msg r)) (sym read-for)
 
 pub taken-said : (st : Rebuilder) (s q : List ℕ) {a b : Result Taken} {x : RebuilderSaid} → a ≡ b → x ≡ leavesRebuilder st s q b → x ≡ leavesRebuilder st s q a
@@ -382,7 +382,7 @@ copy-there st y bits e =
     omega arith
 
 -- ---- the tests of the call
-module _ (st : Rebuilder) (y : List ℕ) (bits : ℕ) (msg : List ℕ) (r : Rooms) where
+module _ (st : Rebuilder) (y : List ℕ) (bits : ℕ) (msg : List ℕ) (r : Capacities) where
   pub call-bad-string : (stringRule y bits && eqb (st .ybits) bits) ≡ false → rebuilderCall st y bits msg r ≡ refusal (refusalNumber BadString)
   unfolding rebuilderCall
   call-bad-string e = rw e refl
@@ -417,9 +417,9 @@ module _ (S : Settings) (y : List ℕ) (bits : ℕ) (q : List ℕ) where
     start-bad-string e = rw (a, e) refl
 
     module _ (b : stringRule y bits ≡ true) where
-      pub start-no-room : length q < 8 → started ≡ refusal (refusalNumber BufferTooShort)
+      pub start-too-short : length q < 8 → started ≡ refusal (refusalNumber BufferTooShort)
       unfolding rebuilderStart
-      start-no-room h = rw (a, b, lt-leb 8 (length q) h) refl
+      start-too-short h = rw (a, b, lt-leb 8 (length q) h) refl
 
       pub start-small : bits < 4294967296
       start-small = let s = rule-is y bits b .few in omega arith

@@ -40,14 +40,14 @@ use Rattle.ends.specs.Soundness.{sound, asksBefore}
 use Rattle.ends.specs.laws.SoundParts.{stage-long, Framed, sound-is, PiecesIs, pieces-is, phase-pieces, TopIs, top-is, ask-inside, PhaseOf, isOpening, isPieces, isWhole, phase-of}
 use Rattle.ends.specs.laws.SoundSteps.{tallied-sound, effect-tally}
 use Rattle.ends.specs.laws.Delivery.{asks-not-open, inside-range}
-use Rattle.ends.specs.Anchors.{place, Best, fits as anchorFits, away}
+use Rattle.ends.specs.Anchors.{place, Best, fits as anchorFits, placeDistance}
 use Rattle.ends.specs.laws.AnchorLaws.{place-best}
 use Rattle.ends.specs.laws.Steps.{step-pieces}
 use Rattle.ends.specs.RebuilderCall.{tallied, Step, effectStep, stepOf, stringAfter, writtenQuestion}
 use Rattle.ends.specs.declared.anchors.Place.{Place}
 use Rattle.ends.specs.declared.anchors.Place.the-variants.{At, Nowhere}
 use Rattle.ends.specs.AnchorSearch.{placeIn}
-use Rattle.ends.specs.code.Window.{Ready}
+use Rattle.ends.specs.code.Window.{Searching}
 use Rattle.ends.specs.declared.state.Plan.{Plan}
 use Rattle.ends.specs.declared.state.Plan.the-variants.{Ask, Finished}
 use Rattle.ends.specs.declared.rebuilding.RebuilderAnswer.{RebuilderAnswer}
@@ -93,8 +93,8 @@ next-asks : (m : List ℕ) → 0 < length m → nextAnswer m ≡ Asks (length m)
 next-asks [] h = absurd (omega arith)
 next-asks (b ∷ m) h = refl
 
-abbrev pub given : (m : List ℕ) → Rebuilder → SheetChange → RebuilderOut
-given m s k = record { answer = nextAnswer m; state = s; sheet = k; answered = s .answered; counted = s .counted }
+abbrev pub givenBack : (m : List ℕ) → Rebuilder → SheetChange → RebuilderOut
+givenBack m s k = record { answer = nextAnswer m; state = s; sheet = k; answered = s .answered; counted = s .counted }
 
 pub none-planned : (o : Option Question) → planOf o ≡ Finished → o ≡ none
 none-planned none z = refl
@@ -104,11 +104,11 @@ pub some-planned : (o : Option Question) (q : Question) → planOf o ≡ Ask q �
 some-planned none q z = let w : _≡_ {A = ℕ} 0 1 = cc in absurd (omega arith)
 some-planned (some r) q z = let d : r ≡ q = cc in ap some d
 
-module _ (s : Rebuilder) (k : SheetChange) (buf : List ℕ) (e : sound s ≡ true) (room : 8 ≤ length buf) {p : Plan} (pl : p ≡ planOf (planned s)) where
-  pub finished-out : p ≡ Finished → (r : RebuilderOut) → r ≡ given [] s k → OutIs r s k buf buf
+module _ (s : Rebuilder) (k : SheetChange) (buf : List ℕ) (e : sound s ≡ true) (capacity : 8 ≤ length buf) {p : Plan} (pl : p ≡ planOf (planned s)) where
+  pub finished-out : p ≡ Finished → (r : RebuilderOut) → r ≡ givenBack [] s k → OutIs r s k buf buf
   finished-out z r f =
       let n : planned s ≡ none = none-planned (planned s) (sym pl ∙ z) in
-      record { out = f ∙ sym (ap (λ (o : Option Question). given (writtenQuestion o) s k) n); question = sym (ap (λ (o : Option Question). atFront (writtenQuestion o) buf) n) }
+      record { out = f ∙ sym (ap (λ (o : Option Question). givenBack (writtenQuestion o) s k) n); question = sym (ap (λ (o : Option Question). atFront (writtenQuestion o) buf) n) }
 
   module _ {q : Question} (z : p ≡ Ask q) (w : WriteResult) (buf′ : List ℕ) (wr : saidWrite w buf′ ≡ putFront (questionBytes q) buf) where
     fits : (w ≡ Written (length (questionBytes q))) × (buf′ ≡ atFront (questionBytes q) buf)
@@ -125,7 +125,7 @@ module _ (s : Rebuilder) (k : SheetChange) (buf : List ℕ) (e : sound s ≡ tru
         record {
           out = g ∙ ap (λ (i : ℕ). record { answer = Asks i; state = s; sheet = k; answered = s .answered; counted = s .counted }) a
               ∙ ap (λ (x : RebuilderAnswer). record { answer = x; state = s; sheet = k; answered = s .answered; counted = s .counted }) (sym (next-asks (questionBytes q) (question-some q)))
-              ∙ sym (ap (λ (o : Option Question). given (writtenQuestion o) s k) n);
+              ∙ sym (ap (λ (o : Option Question). givenBack (writtenQuestion o) s k) n);
           question = fits .1 ∙ sym (ap (λ (o : Option Question). atFront (writtenQuestion o) buf) n);
         }
 
@@ -150,7 +150,7 @@ repair-early st (putsIn e h) = early PuttingIn e tt
 repair-early st (takesOut e h) = early TakingOut e tt
 
 -- ---- what is known of a state that takes an answer for its leftmost piece
-module _ (st : Rebuilder) (size room : ℕ) (k : Acting st size room) where
+module _ (st : Rebuilder) (size capacity : ℕ) (k : Acting st size capacity) where
   pub framed : Framed st
   framed = sound-is st (k .sound-now) .0
 
@@ -225,12 +225,12 @@ module _ (st : Rebuilder) (size room : ℕ) (k : Acting st size room) where
         record { answered = rw (m .answered) (q .answered); counted = rw (m .counted) (q .counted); used = rw (m .rows) (q .used) }
 
     pub split-start : top st .x + s < 4294967296
-    split-start = let f = fit in let fr = f .room in let a = topped .inX in let n = framed .size in omega arith
+    split-start = let f = fit in let fr = f .inside in let a = topped .inX in let n = framed .size in omega arith
 
     pub splitting : Splits st s r
     splitting =
         let f = fit in let a = topped .inX in let b = topped .inY in let n = framed .size in let y = framed .copy in
-        record { usable = usable; some = k .some; few = few; in-x = f .room; in-y = g .placed; x-most = omega arith; y-most = omega arith }
+        record { usable = usable; some = k .some; few = few; in-x = f .inside; in-y = g .placed; x-most = omega arith; y-most = omega arith }
 
 -- ---- what the parts give
 out-to : {r : RebuilderOut} {s s′ : Rebuilder} {k k′ : SheetChange} {q q′ : List ℕ} → s ≡ s′ → k ≡ k′ → OutIs r s k q q′ → OutIs r s′ k′ q q′
@@ -311,16 +311,16 @@ module _ (st : Rebuilder) (y : List ℕ) (size v : ℕ) (how : How) (o : Option 
       step-said st s q (is ∙ ap (effectStep st size) (kept-trial o (k .0) (g .0) (g .1))) (settled-said st size how (k .0) s out (k .2))
 
 -- ---- ranges of the leftmost piece
-module _ (st : Rebuilder) (size room : ℕ) (k : Acting st size room) {t : Piece} (tp : t ≡ top st) where
+module _ (st : Rebuilder) (size capacity : ℕ) (k : Acting st size capacity) {t : Piece} (tp : t ≡ top st) where
   pub copy-part : (y : List ℕ) → st .ybits ≤ 8 * length y → Part y (t .y) (t .q)
-  copy-part y h = let a = topped st size room k .inY in let b = framed st size room k .copy in rw tp record { there = omega arith; few = omega arith }
+  copy-part y h = let a = topped st size capacity k .inY in let b = framed st size capacity k .copy in rw tp record { there = omega arith; few = omega arith }
 
   pub text-part : (s : List ℕ) → st .n ≤ 8 * length s → Part s (t .x) (t .p)
-  text-part s h = let a = topped st size room k .inX in let b = framed st size room k .size in rw tp record { there = omega arith; few = omega arith }
+  text-part s h = let a = topped st size capacity k .inX in let b = framed st size capacity k .size in rw tp record { there = omega arith; few = omega arith }
 
   -- a copy of the piece's own length
   pub same-part : (y : List ℕ) → top st .q ≡ top st .p → st .ybits ≤ 8 * length y → Part y (t .y) (t .p)
-  same-part y e h = let a = topped st size room k .inY in let b = framed st size room k .copy in rw tp record { there = omega arith; few = omega arith }
+  same-part y e h = let a = topped st size capacity k .inY in let b = framed st size capacity k .copy in rw tp record { there = omega arith; few = omega arith }
 
   -- a repair is to a length one apart
   pub apart : RepairDue st → OneApart (t .q) (t .p)
@@ -328,19 +328,19 @@ module _ (st : Rebuilder) (size room : ℕ) (k : Acting st size room) {t : Piece
   apart (takesOut e h) = rw tp (inr h)
 
   pub narrow : st .settings .h ≤ 32
-  narrow = framed st size room k .limits .h-most
+  narrow = framed st size capacity k .limits .h-most
 
-  pub copy-short : t .q < 65537
-  copy-short = let a = topped st size room k .inY in let b = framed st size room k .copy in rw tp (omega arith)
+  pub copy-short : t .q ≤ maxBits
+  copy-short = let a = topped st size capacity k .inY in let b = framed st size capacity k .copy in rw tp (omega arith)
 
   pub piece-part : (bits : List ℕ) → top st .p ≤ 8 * length bits → Part bits 0 (t .p)
-  piece-part bits h = let a = topped st size room k .inX in let b = framed st size room k .size in rw tp record { there = omega arith; few = omega arith }
+  piece-part bits h = let a = topped st size capacity k .inX in let b = framed st size capacity k .size in rw tp record { there = omega arith; few = omega arith }
 
   pub piece-text : (s bits : List ℕ) {s′ : List ℕ} → s′ ≡ writeBits s (t .x) (range bits 0 (t .p)) → s′ ≡ writeBits s (top st .x) (range bits 0 (top st .p))
   piece-text s bits e = e ∙ ap (λ (z : Piece). writeBits s (z .x) (range bits 0 (z .p))) tp
 
   pub anchor-part : (bits : List ℕ) → st .settings .m ≤ 8 * length bits → Part bits 0 (st .settings .m)
-  anchor-part bits h = let m = framed st size room k .limits .m-most in record { there = omega arith; few = omega arith }
+  anchor-part bits h = let m = framed st size capacity k .limits .m-most in record { there = omega arith; few = omega arith }
 
 -- ---- which effect an answer has
 module _ (st : Rebuilder) (y : List ℕ) (size : ℕ) (ph : st .phase ≡ AtPieces) where
@@ -406,39 +406,39 @@ place-none (some i) e f = let z : _≡_ {A = ℕ} 0 1 = cc in absurd (omega arit
 
 pub place-within : (m k p s : ℕ) (ys b : List Bool) (r : ℕ) → place m k p s ys b ≡ some r → r + m ≤ length ys
 place-within m k p s ys b r e =
-    let h : Best (anchorFits m k p s ys b) (away p (length ys) s) 0 (length ys + 1 - m) (some r) = rw e at (place-best m k p s ys b) in
+    let h : Best (anchorFits m k p s ys b) (placeDistance p (length ys) s) 0 (length ys + 1 - m) (some r) = rw e at (place-best m k p s ys b) in
     let u = h .1 in omega arith
 
-module _ {st : Rebuilder} {size room : ℕ} (k : Acting st size room) {i : Attempt} (anchoring : st .stage ≡ Anchor i) {t : Piece} (tp : t ≡ top st) where
+module _ {st : Rebuilder} {size capacity : ℕ} (k : Acting st size capacity) {i : Attempt} (anchoring : st .stage ≡ Anchor i) {t : Piece} (tp : t ≡ top st) where
   long : Long (st .settings) (top st .p)
-  long = stage-long (st .settings) (framed st size room k .limits) (top st .p) (top st .q) (st .stage) (topped st size room k .stage) i anchoring
+  long = stage-long (st .settings) (framed st size capacity k .limits) (top st .p) (top st .q) (st .stage) (topped st size capacity k .stage) i anchoring
 
   pub offsets : Offsets (st .settings .m) (t .p)
   offsets =
-      let l = long in let a = topped st size room k .inX in let n = framed st size room k .size in let m = framed st size room k .limits .m-most in
+      let l = long in let a = topped st size capacity k .inX in let n = framed st size capacity k .size in let m = framed st size capacity k .limits .m-most in
       rw tp record { m-most = m; long = omega arith; p-most = omega arith }
 
   module _ {s : ℕ} (so : s ≡ offset (st .settings .m) (t .p) i) where
     pub offset-is : s ≡ offset (st .settings .m) (top st .p) i
     offset-is = so ∙ ap (λ (z : Piece). offset (st .settings .m) (z .p) i) tp
 
-    offset-room : s + st .settings .m ≤ top st .p
-    offset-room = let o = offset-fits (st .settings) (framed st size room k .limits) (top st .p) i long .room in let e = offset-is in omega arith
+    offset-within : s + st .settings .m ≤ top st .p
+    offset-within = let o = offset-fits (st .settings) (framed st size capacity k .limits) (top st .p) i long .inside in let e = offset-is in omega arith
 
-    pub search-ready : (y bits : List ℕ) → st .ybits ≤ 8 * length y → st .settings .m ≤ 8 * length bits → Ready y (t .y) (t .q) (t .p) s (st .settings .m) (st .settings .k) bits 0
+    pub search-ready : (y bits : List ℕ) → st .ybits ≤ 8 * length y → st .settings .m ≤ 8 * length bits → Searching y (t .y) (t .q) (t .p) s (st .settings .m) (st .settings .k) bits 0
     search-ready y bits h i =
-        let a = topped st size room k .inX in let b = topped st size room k .inY in let n = framed st size room k .size in let c = framed st size room k .copy in
-        let L = framed st size room k .limits in let o = offset-room in let m = L .m-most in
+        let a = topped st size capacity k .inX in let b = topped st size capacity k .inY in let n = framed st size capacity k .size in let c = framed st size capacity k .copy in
+        let L = framed st size capacity k .limits in let o = offset-within in let m = L .m-most in
         rw tp record { piece = omega arith; few = omega arith; length-most = omega arith; offset-most = omega arith; m-most = m; k-most = L .k-most; anchor = omega arith; anchor-few = omega arith }
 
     pub anchor-start : t .x + s < 4294967296
-    anchor-start = let a = topped st size room k .inX in let n = framed st size room k .size in let o = offset-room in rw tp (omega arith)
+    anchor-start = let a = topped st size capacity k .inX in let n = framed st size capacity k .size in let o = offset-within in rw tp (omega arith)
 
     pub anchor-written : (string : List ℕ) (b : List Bool) {z : List ℕ} → z ≡ writeBits string (t .x + s) b → z ≡ writeBits string (top st .x + s) b
     anchor-written string b e = e ∙ ap (λ (z : Piece). writeBits string (z .x + s) b) tp
 
     pub anchor-text : (string : List ℕ) → st .n ≤ 8 * length string → Part string (t .x + s) (st .settings .m)
-    anchor-text string h = let a = topped st size room k .inX in let n = framed st size room k .size in let o = offset-room in rw tp record { there = omega arith; few = omega arith }
+    anchor-text string h = let a = topped st size capacity k .inX in let n = framed st size capacity k .size in let o = offset-within in rw tp record { there = omega arith; few = omega arith }
 
     module _ (y : List ℕ) (b : List Bool) {p : Place} (pp : p ≡ placeIn (place (st .settings .m) (st .settings .k) (t .p) s (range y (t .y) (t .q)) b)) where
       found-place : {r : ℕ} → p ≡ At r → place (st .settings .m) (st .settings .k) (top st .p) (offset (st .settings .m) (top st .p) i) (range y (top st .y) (top st .q)) b ≡ some r
@@ -458,7 +458,7 @@ module _ {st : Rebuilder} {size room : ℕ} (k : Acting st size room) {i : Attem
           record { attempt = i; stage = anchoring; at = offset-is; placed = omega arith }
 
       pub place-small : {r : ℕ} → p ≡ At r → r < 4294967296
-      place-small f = let g = place-splits f in let a = g .placed in let b = topped st size room k .inY in let c = framed st size room k .copy in omega arith
+      place-small f = let g = place-splits f in let a = g .placed in let b = topped st size capacity k .inY in let c = framed st size capacity k .copy in omega arith
 
       pub anchor-placed : {r : ℕ} → p ≡ At r → stepOf st y size (bitsAnswer b) ≡ effectStep st size (splits s r b)
       anchor-placed {r} f =

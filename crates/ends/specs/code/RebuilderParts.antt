@@ -18,14 +18,15 @@ use Rattle.messages.specs.declared.Question.{Question}
 use Rattle.messages.specs.declared.AnswerRead.{AnswerRead}
 use Rattle.messages.specs.declared.AnswerRead.the-variants.{IsSize, IsHash, IsSyndrome, IsBits, NoAnswer}
 use Rattle.messages.specs.Questions.{questionKind}
-use Rattle.messages.specs.Answers.{readAnswer, saidAnswer, BitsThere}
+use Rattle.messages.specs.Answers.{Answer, readAnswer, saidAnswer, BitsThere}
 use Rattle.ends.specs.declared.Rebuilder.{Rebuilder}
 use Rattle.ends.specs.declared.SheetChange.{SheetChange}
 use Rattle.ends.specs.declared.SheetChange.the-variants.{NoRow}
 use Rattle.ends.specs.Runs.{full}
 use Rattle.ends.specs.States.{planned, top}
 use Rattle.ends.specs.Soundness.{sound}
-use Rattle.ends.specs.RebuilderCall.{Taken, takes, Step, writtenQuestion, questionLength, Rooms, roomFor, stepOf}
+use Rattle.ends.specs.RebuilderCall.{Taken, takes, Step, writtenQuestion, questionLength, Capacities, enoughFor, stepOf, awaits}
+use Rattle.ends.specs.RebuilderOutcome.{RebuilderSaid, leavesRebuilder, capacities}
 use Rattle.ends.specs.declared.rebuilding.RebuilderAnswer.{RebuilderAnswer}
 use Rattle.ends.specs.declared.rebuilding.RebuilderAnswer.the-variants.{Asks, Finished, Refused}
 use Rattle.ends.specs.declared.rebuilding.RebuilderOut.{RebuilderOut}
@@ -49,19 +50,23 @@ turnedDown e st = record { answer = Refused e; state = st; sheet = NoRow; answer
 abbrev pub stepTaken : Step → Result Taken
 stepTaken k = takes k (writtenQuestion (planned (k .state)))
 
+-- what taking the answer a of size bytes leaves
+abbrev pub stepOutcome : Rebuilder → (y : List ℕ) (size : ℕ) → Answer → (string question : List ℕ) → RebuilderSaid
+stepOutcome st y size a string question = leavesRebuilder st string question (stepTaken (stepOf st y size a))
+
 -- what is given for a state s and a change of the sheet, with the next question written over the buffer q
 pub record OutIs (r : RebuilderOut) (s : Rebuilder) (k : SheetChange) (q q′ : List ℕ) : Type 0 where
   pub out : r ≡ record { answer = nextAnswer (writtenQuestion (planned s)); state = s; sheet = k; answered = s .answered; counted = s .counted }
   pub question : q′ ≡ atFront (writtenQuestion (planned s)) q
 
--- an answer of size bytes for the leftmost piece of a sound state, with a question buffer of room bytes
-pub record Acting (st : Rebuilder) (size room : ℕ) : Type 0 where
+-- an answer of size bytes for the leftmost piece of a sound state, with a question buffer of capacity bytes
+pub record Acting (st : Rebuilder) (size capacity : ℕ) : Type 0 where
   pub sound-now : sound st ≡ true
   pub array : length (st .pieces) ≡ 32
   pub phase : st .phase ≡ AtPieces
   pub some : 0 < st .waiting
   pub short : size ≤ max 9 (full (st .n))
-  pub enough : 8 ≤ room
+  pub enough : 8 ≤ capacity
 
 -- the lent strings hold what the state says of them
 pub record Lending (st : Rebuilder) (y string : List ℕ) : Type 0 where
@@ -110,23 +115,23 @@ repairHow p q = cond (eqb (q + 1) p) ByPutIn ByTakeOut
 
 -- ---- an answer that was read
 -- the opening's answer n
-pub record Opening (st : Rebuilder) (n room : ℕ) : Type 0 where
+pub record Opening (st : Rebuilder) (n capacity : ℕ) : Type 0 where
   pub sound-now : sound st ≡ true
   pub array : length (st .pieces) ≡ 32
   pub phase : st .phase ≡ AtOpening
   pub small : n ≤ maxBits
-  pub enough : 8 ≤ room
+  pub enough : 8 ≤ capacity
 
 -- an answer of size bytes with all bits of the string
-pub record WholeDue (st : Rebuilder) (size room : ℕ) : Type 0 where
+pub record WholeDue (st : Rebuilder) (size capacity : ℕ) : Type 0 where
   pub sound-now : sound st ≡ true
   pub phase : st .phase ≡ AtWhole
   pub short : size ≤ full (st .n)
-  pub enough : 8 ≤ room
+  pub enough : 8 ≤ capacity
 
 -- an answer of size bytes with bits: of the string, or of the leftmost piece
-pub record BitsDue (st : Rebuilder) (size room : ℕ) : Type 0 where
-  pub phases : (WholeDue st size room) ⊎ (Acting st size room × AsksBits (st .stage))
+pub record BitsDue (st : Rebuilder) (size capacity : ℕ) : Type 0 where
+  pub phases : (WholeDue st size capacity) ⊎ (Acting st size capacity × AsksBits (st .stage))
 
 -- how many bits are awaited
 abbrev pub dueAt : Phase → Rebuilder → ℕ
@@ -148,14 +153,22 @@ pub record Due (st : Rebuilder) (msg : List ℕ) (len : ℕ) (read : AnswerRead)
   pub read-is : saidAnswer msg len read ≡ readAnswer (questionKind question) (questionLength question) (st .settings .h) msg
   pub bits-there : BitsThere msg len read
 
--- whether the lent room is enough for the answer; a message that is no answer is turned down for that
-abbrev pub answerRoom : Rebuilder → Rooms → AnswerRead → Bool
-answerRoom st rooms (IsSize n) = roomFor st n rooms
-answerRoom st rooms (IsHash v) = roomFor st (st .n) rooms
-answerRoom st rooms (IsSyndrome a v) = roomFor st (st .n) rooms
-answerRoom st rooms (IsBits at) = roomFor st (st .n) rooms
-answerRoom st rooms (NoAnswer e) = true
+-- whether the lent buffers are enough for the answer; a message that is no answer is turned down for that
+abbrev pub enoughForAnswer : Rebuilder → Capacities → AnswerRead → Bool
+enoughForAnswer st capacities (IsSize n) = enoughFor st n capacities
+enoughForAnswer st capacities (IsHash v) = enoughFor st (st .n) capacities
+enoughForAnswer st capacities (IsSyndrome a v) = enoughFor st (st .n) capacities
+enoughForAnswer st capacities (IsBits at) = enoughFor st (st .n) capacities
+enoughForAnswer st capacities (NoAnswer e) = true
 
--- what comes of it in enough room
+-- what comes of it in buffers that are long enough
 abbrev pub heardStep : Rebuilder → (y msg : List ℕ) → (len : ℕ) → AnswerRead → Result Taken
 heardStep st y msg len read = andThen (saidAnswer msg len read) (λ a. stepTaken (stepOf st y (length msg) a))
+
+abbrev pub heardOutcome : Rebuilder → (y msg : List ℕ) (len : ℕ) → AnswerRead → (string question : List ℕ) → RebuilderSaid
+heardOutcome st y msg len read string question = leavesRebuilder st string question (heardStep st y msg len read)
+
+-- what a message for the question q that waits leaves
+abbrev pub askedOutcome : Rebuilder → (y msg : List ℕ) (rows : ℕ) → Question → (string question : List ℕ) → RebuilderSaid
+askedOutcome st y msg rows q string question =
+    leavesRebuilder st string question (awaits st y msg (capacities (length string) rows (length question)) (some q))

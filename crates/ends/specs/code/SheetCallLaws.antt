@@ -10,8 +10,8 @@ use Rattle.strings.specs.Results.{Result, refusal, value}
 use Rattle.ends.specs.declared.Holder.{Holder}
 use Rattle.ends.specs.declared.Rebuilder.{Rebuilder}
 use Rattle.ends.specs.declared.Row.{Row}
-use Rattle.ends.specs.RebuilderCall.{Rooms, Step, Taken, noRow, rebuilderCall, sheetAfter, takes, rowsNeeded}
-use Rattle.ends.specs.laws.SheetRoom.{taken-rows}
+use Rattle.ends.specs.RebuilderCall.{Capacities, Step, Taken, noRow, rebuilderCall, sheetAfter, takes, rowsNeeded}
+use Rattle.ends.specs.laws.SheetLength.{taken-rows}
 use Rattle.ends.specs.Worlds.{afterTaken, world}
 use Rattle.ends.specs.declared.rebuilding.RebuilderOut.{RebuilderOut}
 use Rattle.ends.specs.RebuilderOutcome.{RebuilderSaid, saidRebuilder, leavesRebuilder}
@@ -28,15 +28,15 @@ module _ (st : Rebuilder) (string question string′ question′ : List ℕ) (ou
   said-left (refusal d) sh k = ap (λ (w : RebuilderSaid). sheetAfter sh (w .sheet)) k
   said-left (value v) sh k = ap (λ (w : RebuilderSaid). sheetAfter sh (w .sheet)) k
 
-module _ (st : Rebuilder) (y : List ℕ) (bits : ℕ) (msg : List ℕ) (rooms : Rooms) (string question string′ question′ : List ℕ) (out : RebuilderOut)
-    (said : saidRebuilder out string′ question′ ≡ leavesRebuilder st string question (rebuilderCall st y bits msg rooms)) where
+module _ (st : Rebuilder) (y : List ℕ) (bits : ℕ) (msg : List ℕ) (capacities : Capacities) (string question string′ question′ : List ℕ) (out : RebuilderOut)
+    (said : saidRebuilder out string′ question′ ≡ leavesRebuilder st string question (rebuilderCall st y bits msg capacities)) where
   -- what the call says of the sheet lies in the sheet
-  pub change-fits : rowsNeeded (out .sheet) ≤ rooms .sheet
-  change-fits = said-rows st string question string′ question′ out (rebuilderCall st y bits msg rooms) (rooms .sheet) said (λ j m t. taken-rows st y bits msg rooms j m t)
+  pub change-fits : rowsNeeded (out .sheet) ≤ capacities .sheet
+  change-fits = said-rows st string question string′ question′ out (rebuilderCall st y bits msg capacities) (capacities .sheet) said (λ j m t. taken-rows st y bits msg capacities j m t)
 
   -- and done to the sheet, it leaves what the definition says
-  pub left-on-sheet : (sh sh′ : List Row) → sh′ ≡ sheetAfter sh (out .sheet) → saidOnSheet out sh′ string′ question′ ≡ leavesOnSheet st sh string question (rebuilderCall st y bits msg rooms)
-  left-on-sheet sh sh′ e = rw (said, e, said-left st string question string′ question′ out (rebuilderCall st y bits msg rooms) sh said) refl
+  pub left-on-sheet : (sh sh′ : List Row) → sh′ ≡ sheetAfter sh (out .sheet) → saidOnSheet out sh′ string′ question′ ≡ leavesOnSheet st sh string question (rebuilderCall st y bits msg capacities)
+  left-on-sheet sh sh′ e = rw (said, e, said-left st string question string′ question′ out (rebuilderCall st y bits msg capacities) sh said) refl
 
 -- demand 3's world after a call holds the state, the string and the rows that the call leaves
 pub world-left : (H : Holder) (r : Rebuilder) (string : List ℕ) (rows : List Row) (question buffer : List ℕ) (heard taken : List (List ℕ)) (m : List ℕ) (t : Result Taken)

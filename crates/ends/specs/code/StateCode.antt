@@ -56,7 +56,7 @@ pub record Offsets (m p : ℕ) : Type 0 where
   pub long : 4 * m ≤ p
   pub p-most : p ≤ maxBits
 
--- the anchor at offset s, placed at r, is within the leftmost piece, and one more piece has room
+-- the anchor at offset s, placed at r, is within the leftmost piece, and there is a place for one piece more
 pub record Splits (st : Rebuilder) (s r : ℕ) : Type 0 where
   pub usable : Usable (st .settings)
   pub some : 0 < st .waiting

@@ -6,7 +6,7 @@ use Rattle.strings.specs.Bits.{maxBits}
 
 -- ---- the search inside the rebuilder's call
 -- both ranges are there, and all numbers are within their limits; the anchor may stand in a message
-pub record Ready (y : List ℕ) (start q p s m k : ℕ) (a : List ℕ) (at : ℕ) : Type 0 where
+pub record Searching (y : List ℕ) (start q p s m k : ℕ) (a : List ℕ) (at : ℕ) : Type 0 where
   pub piece : start + q ≤ 8 * length y
   pub few : start + q ≤ maxBits
   pub length-most : p ≤ maxBits
@@ -17,7 +17,7 @@ pub record Ready (y : List ℕ) (start q p s m k : ℕ) (a : List ℕ) (at : ℕ
   pub anchor-few : at + m ≤ 100000
 
 -- ---- the places that the code looks at; AnchorSearchLaws says that all others of 0 to q - m are too far
--- one past the last place with 2r + p < due + least and room for m bits, where due is 2s + q
+-- one past the last place with 2r + p < due + least and m bits of Y behind it, where due is 2s + q
 unfoldable pub windowEnd : (q m p due least : ℕ) → ℕ
 windowEnd q m p due least = min (q + 1 - m) ((due + least + 1 - p) / 2)
 

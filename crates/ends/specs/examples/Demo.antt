@@ -25,7 +25,7 @@ use Rattle.ends.specs.States.{noPiece, top, popped, pushed, restaged, re
 use Rattle.ends.specs.Soundness.{holderSound, isBlank, blankFrom, pieceFits, inOrder, rowsLeft, asksLeft, stageFits, stackSound, topFits, openingSound, piecesSound, wholeSound, sound}
 use Rattle.ends.specs.HolderCall.{freshHolder, sameBitCount, sends, holderCall, Reply}
 use Rattle.ends.specs.RebuilderCall.{Started, starts, rebuilderStart, Step, Taken, noRow, stringAfter, sheetAfter, tallied, effectStep, openingStep, wholeStep, stepOf, rebuilderCall, freshRebuilder}
-use Rattle.ends.specs.Worlds.{Call, toHolder, toRebuilder, Lent, roomsOf, world, firstWorld, worldAfter}
+use Rattle.ends.specs.Worlds.{Call, toHolder, toRebuilder, Lent, capacitiesOf, world, firstWorld, worldAfter}
 use Rattle.ends.specs.declared.Stage.the-variants.{Hashing}
 use Rattle.ends.specs.declared.Phase.the-variants.{AtPieces}
 
@@ -60,8 +60,8 @@ abbrev rounds : (fuel : ℕ) → Lent → Holder → Rebuilder → (string : Lis
 rounds zero c H st bs sh q = []
 rounds (suc f) c H st bs sh [] = lastLines st bs sh
 rounds (suc f) c H st bs sh (b ∷ q) =
-    asks (b ∷ q) ∷ afterReply (holderCall H (c .x) (c .xbits) (b ∷ q) (c .replyRoom)) (λ (H′ : Holder) (a : List ℕ).
-    afterCall (rebuilderCall st (c .y) (c .ybits) a (roomsOf c bs sh)) (λ (s : Step) (q′ : List ℕ).
+    asks (b ∷ q) ∷ afterReply (holderCall H (c .x) (c .xbits) (b ∷ q) (c .replyCapacity)) (λ (H′ : Holder) (a : List ℕ).
+    afterCall (rebuilderCall st (c .y) (c .ybits) a (capacitiesOf c bs sh)) (λ (s : Step) (q′ : List ℕ).
     rounds f c H′ (s .state) (stringAfter bs (s .string)) (sheetAfter sh (s .sheet)) q′))
 
 abbrev afterStart : Lent → Result Started → List Line
@@ -72,7 +72,7 @@ afterStart c (value b) =
 -- the printed lines for settings, X and Y: bytes and bit count each
 abbrev demonstration : Settings → (x : List ℕ) (xbits : ℕ) (y : List ℕ) (ybits : ℕ) → List Line
 demonstration S x xbits y ybits =
-    afterStart (record { settings = S; x = x; xbits = xbits; y = y; ybits = ybits; replyRoom = 1 + bytesFor xbits + 9; questionRoom = 8 }) (rebuilderStart S y ybits 8)
+    afterStart (record { settings = S; x = x; xbits = xbits; y = y; ybits = ybits; replyCapacity = 1 + bytesFor xbits + 9; questionCapacity = 8 }) (rebuilderStart S y ybits 8)
 
 -- ---- the runs
 -- settings 8 8 1 1 and a ceiling
@@ -88,7 +88,7 @@ y66 = 0x36 ∷ 0x71 ∷ 0x15 ∷ 0xfa ∷ 0x2f ∷ 0xea ∷ 0x8c ∷ 0xd4 ∷ 0x
 
 -- 01's example as lent, its opening, calls on it, the last one first, and a row that nobody may touch
 abbrev exampleLent : Lent
-exampleLent = record { settings = upTo 100; x = 0xb0 ∷ []; xbits = 4; y = 0xa0 ∷ []; ybits = 3; replyRoom = 4; questionRoom = 8 }
+exampleLent = record { settings = upTo 100; x = 0xb0 ∷ []; xbits = 4; y = 0xa0 ∷ []; ybits = 3; replyCapacity = 4; questionCapacity = 8 }
 
 abbrev opening : List ℕ
 opening = 0x00 ∷ 0x01 ∷ 0x08 ∷ 0x01 ∷ []

@@ -29,7 +29,7 @@ use Rattle.ends.specs.Runs.{sizeOf, working, whole, judge, blank}
 use Rattle.ends.specs.States.{noPiece, top, popped, restaged, retried, planned}
 use Rattle.ends.specs.Soundness.{holderSound, isBlank, blankFrom, pieceFits, inOrder, rowsLeft, asksLeft, stageFits, stackSound, topFits, openingSound, piecesSound, wholeSound, sound}
 use Rattle.ends.specs.HolderCall.{replies, freshHolder, sameBitCount, sends, holderCall}
-use Rattle.ends.specs.RebuilderCall.{rebuilderStart, Rooms, clears, writes, stringAfter, sheetAfter, tallied, effectStep, stepOf, rebuilderCall, freshRebuilder}
+use Rattle.ends.specs.RebuilderCall.{rebuilderStart, Capacities, clears, writes, stringAfter, sheetAfter, tallied, effectStep, stepOf, rebuilderCall, freshRebuilder}
 use Rattle.ends.specs.declared.Stage.{Stage}
 use Rattle.ends.specs.declared.Stage.the-variants.{Anchor, AllBits, Hashing, PuttingIn, TakingOut}
 use Rattle.ends.specs.declared.Attempt.the-variants.{First, Second, Third}
@@ -54,7 +54,7 @@ found k s q r = place 8 k 64 s (take q (blank r ++ (anchor ++ blank q))) anchor
 abbrev foundOfTwo : (k s q r : ℕ) → Option ℕ
 foundOfTwo k s q r = place 8 k 64 s (take q (blank r ++ (true ∷ false ∷ (anchor ++ blank q)))) anchor
 
--- ---- states and lent rooms
+-- ---- states and lent capacities
 abbrev holder : (opened : Bool) (bits h key answers : ℕ) → Holder
 holder o b h k a = record { opened = o; bits = b; h = h; key = k; answers = a }
 
@@ -81,8 +81,8 @@ offsets S p AllBits = []
 abbrev tried : Settings → (q p : ℕ) → List ℕ
 tried S q p = offsets S p (laterStage S p q)
 
-abbrev rooms : (string sheet question : ℕ) → Rooms
-rooms s sh q = record { string = s; sheet = sh; question = q }
+abbrev capacities : (string sheet question : ℕ) → Capacities
+capacities s sh q = record { string = s; sheet = sh; question = q }
 
 abbrev row : (start len how : ℕ) → Row
 row s l w = record { start = s; len = l; how = w }
@@ -96,10 +96,10 @@ numberOf (value a) = 0
 abbrev startRefusal : (y : List ℕ) (bits : ℕ) → ℕ
 startRefusal y bits = numberOf (rebuilderStart eight y bits 8)
 
-abbrev holderRefusal : Holder → (room : ℕ) → (message : List ℕ) → ℕ
-holderRefusal H room m = numberOf (holderCall H (0xb0 ∷ []) 4 m room)
+abbrev holderRefusal : Holder → (capacity : ℕ) → (message : List ℕ) → ℕ
+holderRefusal H capacity m = numberOf (holderCall H (0xb0 ∷ []) 4 m capacity)
 
-abbrev rebuilderRefusal : Rebuilder → Rooms → (message : List ℕ) → ℕ
+abbrev rebuilderRefusal : Rebuilder → Capacities → (message : List ℕ) → ℕ
 rebuilderRefusal st r m = numberOf (rebuilderCall st (0xa0 ∷ []) 3 m r)
 
 pub record Samples : Type 0 where
@@ -172,30 +172,30 @@ pub record Samples : Type 0 where
   pub kind-opened : map (holderRefusal (holder true 4 8 1 1) 9) ((0x04 ∷ []) ∷ (0x00 ∷ []) ∷ []) ≡ 6 ∷ 3 ∷ []
   -- the fields: 4 and 5 as met; then 7, 8, 9: a reply needs its own length
   pub fields : map (holderRefusal (holder true 4 8 1 1) 9) ((0x01 ∷ 0x00 ∷ []) ∷ (0x01 ∷ 0x80 ∷ 0x00 ∷ []) ∷ (0x01 ∷ 0xff ∷ 0xff ∷ 0xff ∷ 0xff ∷ 0x10 ∷ []) ∷ (0x01 ∷ 0xff ∷ 0xff ∷ 0xff ∷ 0xff ∷ 0x0f ∷ 0x01 ∷ []) ∷ (0x01 ∷ 0x00 ∷ 0x05 ∷ 0x00 ∷ []) ∷ []) ≡ 4 ∷ 5 ∷ 5 ∷ 8 ∷ 7 ∷ []
-  pub reply-room : holderRefusal (holder true 4 8 1 1) 0 (0x01 ∷ 0x00 ∷ 0x05 ∷ []) ∷ holderRefusal (holder true 4 8 1 1) 2 (0x01 ∷ 0x00 ∷ 0x04 ∷ []) ∷ holderRefusal (holder true 4 8 1 1) 3 (0x01 ∷ 0x00 ∷ 0x04 ∷ []) ∷ [] ≡ 8 ∷ 9 ∷ 0 ∷ []
+  pub reply-short : holderRefusal (holder true 4 8 1 1) 0 (0x01 ∷ 0x00 ∷ 0x05 ∷ []) ∷ holderRefusal (holder true 4 8 1 1) 2 (0x01 ∷ 0x00 ∷ 0x04 ∷ []) ∷ holderRefusal (holder true 4 8 1 1) 3 (0x01 ∷ 0x00 ∷ 0x04 ∷ []) ∷ [] ≡ 8 ∷ 9 ∷ 0 ∷ []
   -- a range has length 1 or more and ends by n, here 4
   pub ranges : map (holderRefusal (holder true 4 8 1 1) 9) ((0x01 ∷ 0x00 ∷ 0x00 ∷ []) ∷ (0x01 ∷ 0x00 ∷ 0x01 ∷ []) ∷ (0x01 ∷ 0x00 ∷ 0x04 ∷ []) ∷ (0x01 ∷ 0x00 ∷ 0x05 ∷ []) ∷ (0x01 ∷ 0x03 ∷ 0x01 ∷ []) ∷ (0x01 ∷ 0x04 ∷ 0x01 ∷ []) ∷ (0x02 ∷ 0x03 ∷ 0x02 ∷ []) ∷ (0x03 ∷ 0x03 ∷ 0x02 ∷ []) ∷ []) ≡ 8 ∷ 0 ∷ 0 ∷ 8 ∷ 0 ∷ 8 ∷ 8 ∷ 8 ∷ []
   -- an opening: version 1, h and key in the settings' limits; 7 before 8; its reply has 2 bytes
   pub opening-version : map (λ (version : ℕ). holderRefusal freshHolder 9 (0x00 ∷ version ∷ 0x08 ∷ 0x01 ∷ [])) (0 ∷ 1 ∷ 2 ∷ []) ≡ 8 ∷ 0 ∷ 8 ∷ []
   pub opening-h : map (λ (h : ℕ). holderRefusal freshHolder 9 (0x00 ∷ 0x01 ∷ h ∷ 0x01 ∷ [])) (7 ∷ 8 ∷ 32 ∷ 33 ∷ []) ≡ 8 ∷ 0 ∷ 0 ∷ 8 ∷ []
   pub opening-key : map (λ (key : List ℕ). holderRefusal freshHolder 9 (0x00 ∷ 0x01 ∷ 0x08 ∷ key)) ((0x00 ∷ []) ∷ (0x01 ∷ []) ∷ (0xff ∷ 0xff ∷ 0xff ∷ 0xff ∷ 0x0f ∷ []) ∷ (0xff ∷ 0xff ∷ 0xff ∷ 0xff ∷ 0x10 ∷ []) ∷ []) ≡ 8 ∷ 0 ∷ 0 ∷ 5 ∷ []
-  pub opening-room : holderRefusal freshHolder 9 (0x00 ∷ 0x02 ∷ 0x08 ∷ 0x01 ∷ 0x00 ∷ []) ∷ map (λ (room : ℕ). holderRefusal freshHolder room (0x00 ∷ 0x01 ∷ 0x08 ∷ 0x01 ∷ [])) (1 ∷ 2 ∷ []) ≡ 7 ∷ 9 ∷ 0 ∷ []
+  pub opening-short : holderRefusal freshHolder 9 (0x00 ∷ 0x02 ∷ 0x08 ∷ 0x01 ∷ 0x00 ∷ []) ∷ map (λ (capacity : ℕ). holderRefusal freshHolder capacity (0x00 ∷ 0x01 ∷ 0x08 ∷ 0x01 ∷ [])) (1 ∷ 2 ∷ []) ≡ 7 ∷ 9 ∷ 0 ∷ []
   -- Refusals of the rebuilder's call: 2 before 3; 3 before the message: finished, or unsound
-  pub call-string : map numberOf (rebuilderCall finished (0xb0 ∷ []) 3 [] (rooms 0 0 0) ∷ rebuilderCall finished (0xa0 ∷ []) 4 [] (rooms 0 0 0) ∷ []) ≡ 2 ∷ 2 ∷ []
-  pub call-state : map (λ (st : Rebuilder). rebuilderRefusal st (rooms 0 0 0) []) (finished ∷ atStage PuttingIn ∷ atStage (Anchor First) ∷ atStage Hashing ∷ []) ≡ 3 ∷ 4 ∷ 3 ∷ 3 ∷ []
+  pub call-string : map numberOf (rebuilderCall finished (0xb0 ∷ []) 3 [] (capacities 0 0 0) ∷ rebuilderCall finished (0xa0 ∷ []) 4 [] (capacities 0 0 0) ∷ []) ≡ 2 ∷ 2 ∷ []
+  pub call-state : map (λ (st : Rebuilder). rebuilderRefusal st (capacities 0 0 0) []) (finished ∷ atStage PuttingIn ∷ atStage (Anchor First) ∷ atStage Hashing ∷ []) ≡ 3 ∷ 4 ∷ 3 ∷ 3 ∷ []
   -- 4, 5, 6 as met, 6 for another kind than the one awaited; then 7, 8, 9
-  pub call-order : map (rebuilderRefusal (freshRebuilder eight 3) (rooms 0 0 0)) ([] ∷ (0x01 ∷ []) ∷ (0x04 ∷ []) ∷ (0x00 ∷ []) ∷ (0x00 ∷ 0x80 ∷ []) ∷ (0x00 ∷ 0x80 ∷ 0x00 ∷ []) ∷ (0x00 ∷ 0x81 ∷ 0x80 ∷ 0x04 ∷ 0x00 ∷ []) ∷ (0x00 ∷ 0x81 ∷ 0x80 ∷ 0x04 ∷ []) ∷ (0x00 ∷ 0x04 ∷ []) ∷ []) ≡ 4 ∷ 6 ∷ 6 ∷ 4 ∷ 4 ∷ 5 ∷ 7 ∷ 8 ∷ 9 ∷ []
+  pub call-order : map (rebuilderRefusal (freshRebuilder eight 3) (capacities 0 0 0)) ([] ∷ (0x01 ∷ []) ∷ (0x04 ∷ []) ∷ (0x00 ∷ []) ∷ (0x00 ∷ 0x80 ∷ []) ∷ (0x00 ∷ 0x80 ∷ 0x00 ∷ []) ∷ (0x00 ∷ 0x81 ∷ 0x80 ∷ 0x04 ∷ 0x00 ∷ []) ∷ (0x00 ∷ 0x81 ∷ 0x80 ∷ 0x04 ∷ []) ∷ (0x00 ∷ 0x04 ∷ []) ∷ []) ≡ 4 ∷ 6 ∷ 6 ∷ 4 ∷ 4 ∷ 5 ∷ 7 ∷ 8 ∷ 9 ∷ []
   -- n up to 65,536; ceil(n/8) bytes, 2·floor(n/m) + 1 rows, and 8 bytes for the question, even the last
-  pub rooms-most : map (rebuilderRefusal (freshRebuilder eight 3) (rooms 8192 16385 8)) ((0x00 ∷ 0x80 ∷ 0x80 ∷ 0x04 ∷ []) ∷ (0x00 ∷ 0x81 ∷ 0x80 ∷ 0x04 ∷ []) ∷ []) ≡ 0 ∷ 8 ∷ []
-  pub rooms-0 : map (λ (r : Rooms). rebuilderRefusal (freshRebuilder eight 3) r (0x00 ∷ 0x00 ∷ [])) (rooms 0 0 8 ∷ rooms 0 1 8 ∷ []) ≡ 9 ∷ 0 ∷ []
-  pub rooms-7 : map (λ (r : Rooms). rebuilderRefusal (freshRebuilder eight 3) r (0x00 ∷ 0x07 ∷ [])) (rooms 0 1 8 ∷ rooms 1 1 8 ∷ []) ≡ 9 ∷ 0 ∷ []
-  pub rooms-8 : map (λ (r : Rooms). rebuilderRefusal (freshRebuilder eight 3) r (0x00 ∷ 0x08 ∷ [])) (rooms 0 3 8 ∷ rooms 1 2 8 ∷ rooms 1 3 7 ∷ rooms 1 3 8 ∷ []) ≡ 9 ∷ 9 ∷ 9 ∷ 0 ∷ []
-  pub rooms-9 : map (λ (r : Rooms). rebuilderRefusal (freshRebuilder eight 3) r (0x00 ∷ 0x09 ∷ [])) (rooms 1 3 8 ∷ rooms 2 3 8 ∷ []) ≡ 9 ∷ 0 ∷ []
-  pub rooms-last : map (λ (question : ℕ). rebuilderRefusal (atStage PuttingIn) (rooms 1 1 question) (0x02 ∷ 0x03 ∷ 0xab ∷ 0x01 ∷ [])) (7 ∷ 8 ∷ []) ≡ 9 ∷ 0 ∷ []
+  pub capacities-most : map (rebuilderRefusal (freshRebuilder eight 3) (capacities 8192 16385 8)) ((0x00 ∷ 0x80 ∷ 0x80 ∷ 0x04 ∷ []) ∷ (0x00 ∷ 0x81 ∷ 0x80 ∷ 0x04 ∷ []) ∷ []) ≡ 0 ∷ 8 ∷ []
+  pub capacities-0 : map (λ (r : Capacities). rebuilderRefusal (freshRebuilder eight 3) r (0x00 ∷ 0x00 ∷ [])) (capacities 0 0 8 ∷ capacities 0 1 8 ∷ []) ≡ 9 ∷ 0 ∷ []
+  pub capacities-7 : map (λ (r : Capacities). rebuilderRefusal (freshRebuilder eight 3) r (0x00 ∷ 0x07 ∷ [])) (capacities 0 1 8 ∷ capacities 1 1 8 ∷ []) ≡ 9 ∷ 0 ∷ []
+  pub capacities-8 : map (λ (r : Capacities). rebuilderRefusal (freshRebuilder eight 3) r (0x00 ∷ 0x08 ∷ [])) (capacities 0 3 8 ∷ capacities 1 2 8 ∷ capacities 1 3 7 ∷ capacities 1 3 8 ∷ []) ≡ 9 ∷ 9 ∷ 9 ∷ 0 ∷ []
+  pub capacities-9 : map (λ (r : Capacities). rebuilderRefusal (freshRebuilder eight 3) r (0x00 ∷ 0x09 ∷ [])) (capacities 1 3 8 ∷ capacities 2 3 8 ∷ []) ≡ 9 ∷ 0 ∷ []
+  pub capacities-last : map (λ (question : ℕ). rebuilderRefusal (atStage PuttingIn) (capacities 1 1 question) (0x02 ∷ 0x03 ∷ 0xab ∷ 0x01 ∷ [])) (7 ∷ 8 ∷ []) ≡ 9 ∷ 0 ∷ []
   -- a syndrome up to the length, here 4; a hash below 2^h, here 256; then an answer cut short, one with a byte behind it, one of another kind
-  pub syndrome-answers : map (rebuilderRefusal (atStage PuttingIn) (rooms 1 1 8)) ((0x02 ∷ 0x04 ∷ 0x00 ∷ []) ∷ (0x02 ∷ 0x05 ∷ 0x00 ∷ []) ∷ (0x02 ∷ 0x00 ∷ 0xff ∷ 0x01 ∷ []) ∷ (0x02 ∷ 0x00 ∷ 0x80 ∷ 0x02 ∷ []) ∷ (0x02 ∷ 0x03 ∷ []) ∷ (0x02 ∷ 0x03 ∷ 0xab ∷ 0x01 ∷ 0x00 ∷ []) ∷ (0x01 ∷ 0x03 ∷ []) ∷ []) ≡ 0 ∷ 8 ∷ 0 ∷ 8 ∷ 4 ∷ 7 ∷ 6 ∷ []
+  pub syndrome-answers : map (rebuilderRefusal (atStage PuttingIn) (capacities 1 1 8)) ((0x02 ∷ 0x04 ∷ 0x00 ∷ []) ∷ (0x02 ∷ 0x05 ∷ 0x00 ∷ []) ∷ (0x02 ∷ 0x00 ∷ 0xff ∷ 0x01 ∷ []) ∷ (0x02 ∷ 0x00 ∷ 0x80 ∷ 0x02 ∷ []) ∷ (0x02 ∷ 0x03 ∷ []) ∷ (0x02 ∷ 0x03 ∷ 0xab ∷ 0x01 ∷ 0x00 ∷ []) ∷ (0x01 ∷ 0x03 ∷ []) ∷ []) ≡ 0 ∷ 8 ∷ 0 ∷ 8 ∷ 4 ∷ 7 ∷ 6 ∷ []
   -- bits packed as a string: here 4 in 1 byte, spare bits zero
-  pub bits-answers : map (rebuilderRefusal (atStage AllBits) (rooms 1 1 8)) ((0x03 ∷ []) ∷ (0x03 ∷ 0xb0 ∷ []) ∷ (0x03 ∷ 0xb8 ∷ []) ∷ (0x03 ∷ 0xb8 ∷ 0x00 ∷ []) ∷ []) ≡ 4 ∷ 0 ∷ 8 ∷ 7 ∷ []
+  pub bits-answers : map (rebuilderRefusal (atStage AllBits) (capacities 1 1 8)) ((0x03 ∷ []) ∷ (0x03 ∷ 0xb0 ∷ []) ∷ (0x03 ∷ 0xb8 ∷ []) ∷ (0x03 ∷ 0xb8 ∷ 0x00 ∷ []) ∷ []) ≡ 4 ∷ 0 ∷ 8 ∷ 7 ∷ []
   -- a trial is left in the string only if its hash agrees; else the whole piece is asked for
   pub trial : map (λ (v : ℕ). stringAfter (0x00 ∷ []) (stepOf (atStage PuttingIn) (0xa0 ∷ []) 4 (syndromeAnswer 3 v) .string)) (0xab ∷ 0xaa ∷ []) ≡ (0xb0 ∷ []) ∷ (0x00 ∷ []) ∷ []
   pub trial-next : map (λ (v : ℕ). planned (stepOf (atStage PuttingIn) (0xa0 ∷ []) 4 (syndromeAnswer 3 v) .state)) (0xab ∷ 0xaa ∷ []) ≡ none ∷ some (AskBits 0 4) ∷ []
@@ -211,4 +211,4 @@ pub record Samples : Type 0 where
 
 pub samples : Samples
 unfolding bitAt range flipped setBit writeBits pack cleared sameBits noneSet stringRule syndrome insertions withSyndrome putIn xorLeft xorRight xorshift hashFrom hash groups number nextByte numberAt twoAt threeAt kindAt openingAt rangeAt fieldsAt answerBytes sizeAt syndromeAt bitsAt answerFields readAnswer withinLimits isqrt place hashOf laterStage firstStage begin effect sizeOf judge top popped restaged retried planned holderSound isBlank blankFrom pieceFits inOrder rowsLeft asksLeft stageFits topFits stackSound openingSound piecesSound wholeSound sound sameBitCount sends holderCall rebuilderStart tallied effectStep stepOf rebuilderCall
-samples = record { limit-m = refl; limit-h = refl; limit-k = refl; limit-key = refl; limit-ceiling = refl; house = refl; roots = refl; window = refl; tie = refl; window-67 = refl; window-65 = refl; tie-67 = refl; window-63 = refl; window-k-2 = refl; last-place = refl; below-0 = refl; small-p = refl; small-m-16 = refl; small-h-16 = refl; small-most = refl; small-q = refl; first-10 = refl; first-100 = refl; first-1 = refl; first-2 = refl; empty-piece = refl; answer-bytes = refl; ceiling = refl; ceiling-settled = refl; ceiling-phase = refl; zeroed = refl; written = refl; sheet-add = refl; sheet-one = refl; start-order = refl; string-bytes = refl; string-spare = refl; string-most = refl; holder-string = refl; holder-state = refl; holder-answers = refl; last-answer = refl; kind-unopened = refl; kind-opened = refl; fields = refl; reply-room = refl; ranges = refl; opening-version = refl; opening-h = refl; opening-key = refl; opening-room = refl; call-string = refl; call-state = refl; call-order = refl; rooms-most = refl; rooms-0 = refl; rooms-7 = refl; rooms-8 = refl; rooms-9 = refl; rooms-last = refl; syndrome-answers = refl; bits-answers = refl; trial = refl; trial-next = refl; sound-phase = refl; sound-n = refl; sound-answered = refl; sound-counted = refl; sound-rows = refl; sound-stage = refl; sound-waiting = refl; sound-whole = refl }
+samples = record { limit-m = refl; limit-h = refl; limit-k = refl; limit-key = refl; limit-ceiling = refl; house = refl; roots = refl; window = refl; tie = refl; window-67 = refl; window-65 = refl; tie-67 = refl; window-63 = refl; window-k-2 = refl; last-place = refl; below-0 = refl; small-p = refl; small-m-16 = refl; small-h-16 = refl; small-most = refl; small-q = refl; first-10 = refl; first-100 = refl; first-1 = refl; first-2 = refl; empty-piece = refl; answer-bytes = refl; ceiling = refl; ceiling-settled = refl; ceiling-phase = refl; zeroed = refl; written = refl; sheet-add = refl; sheet-one = refl; start-order = refl; string-bytes = refl; string-spare = refl; string-most = refl; holder-string = refl; holder-state = refl; holder-answers = refl; last-answer = refl; kind-unopened = refl; kind-opened = refl; fields = refl; reply-short = refl; ranges = refl; opening-version = refl; opening-h = refl; opening-key = refl; opening-short = refl; call-string = refl; call-state = refl; call-order = refl; capacities-most = refl; capacities-0 = refl; capacities-7 = refl; capacities-8 = refl; capacities-9 = refl; capacities-last = refl; syndrome-answers = refl; bits-answers = refl; trial = refl; trial-next = refl; sound-phase = refl; sound-n = refl; sound-answered = refl; sound-counted = refl; sound-rows = refl; sound-stage = refl; sound-waiting = refl; sound-whole = refl }

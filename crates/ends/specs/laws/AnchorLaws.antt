@@ -10,7 +10,7 @@ use native.Mathlib.Decide.{ℕ-discrete}
 use lib.ListN.{length}
 use lib.Dec.{leb}
 use borrow.Author.Tests.{leb-true, leb-false}
-use Rattle.ends.specs.Anchors.{Best, away, fits, nearer, nearest, place, places}
+use Rattle.ends.specs.Anchors.{Best, placeDistance, fits, nearer, nearest, place, places}
 use Rattle.ends.specs.Segments.{firstStage}
 use Rattle.strings.specs.laws.Tests.{true-false}
 
@@ -52,6 +52,6 @@ nearest-best f d i (suc n) = go (f i) refl (nearest f d (places (suc i) n)) (nea
         late r a b q (no z) = h .3 r (omega arith) (omega arith) q
 
 -- of all places 0 to q - m
-pub place-best : (m k p s : ℕ) (ys b : List Bool) → Best (fits m k p s ys b) (away p (length ys) s) 0 (length ys + 1 - m) (place m k p s ys b)
+pub place-best : (m k p s : ℕ) (ys b : List Bool) → Best (fits m k p s ys b) (placeDistance p (length ys) s) 0 (length ys + 1 - m) (place m k p s ys b)
 unfolding place
-place-best m k p s ys b = nearest-best (fits m k p s ys b) (away p (length ys) s) 0 (length ys + 1 - m)
+place-best m k p s ys b = nearest-best (fits m k p s ys b) (placeDistance p (length ys) s) 0 (length ys + 1 - m)

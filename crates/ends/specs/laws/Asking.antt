@@ -15,7 +15,7 @@ use Rattle.messages.specs.laws.AnswerLaws.{answer-form}
 use Rattle.messages.specs.Answers.{Answer, readAnswer}
 use Rattle.messages.specs.Questions.{questionKind}
 use Rattle.messages.specs.declared.Question.{Question}
-use Rattle.ends.specs.RebuilderCall.{Rooms, Step, awaits, bitsKnown, given, questionLength, rebuilderCall, roomFor, stepOf, takes, writtenQuestion, Taken}
+use Rattle.ends.specs.RebuilderCall.{Capacities, Step, awaits, bitsKnown, given, questionLength, rebuilderCall, enoughFor, stepOf, takes, writtenQuestion, Taken}
 use Rattle.ends.specs.Runs.{sizeOf}
 use Rattle.ends.specs.Segments.{asks, step}
 use Rattle.ends.specs.laws.SoundSteps.{step-sound}
@@ -51,43 +51,43 @@ asks-planned {S} {st = st} {s = s} h = go (st .phase) ∙ sym (ap (askStore S) (
     go AtWhole = refl
 
 -- ---- a call that was taken
-pub record TakenCall (st : Rebuilder) (y : List ℕ) (msg : List ℕ) (rooms : Rooms) (step : Step) (next : List ℕ) : Type 0 where
+pub record TakenCall (st : Rebuilder) (y : List ℕ) (msg : List ℕ) (capacities : Capacities) (step : Step) (next : List ℕ) : Type 0 where
   pub sound-before : sound st ≡ true
   pub q : Question
   pub asked : planned st ≡ some q
   pub a : Answer
   pub read : readAnswer (questionKind q) (questionLength q) (st .settings .h) msg ≡ value a
-  pub room : roomFor st (bitsKnown st a) rooms ≡ true
+  pub capacity : enoughFor st (bitsKnown st a) capacities ≡ true
   pub steps : step ≡ stepOf st y (length msg) a
   pub asks : next ≡ writtenQuestion (planned (stepOf st y (length msg) a .state))
 
-module _ (st : Rebuilder) (y : List ℕ) (bits : ℕ) (msg : List ℕ) (rooms : Rooms) (step : Step) (next : List ℕ) where
-  given-taken : (a : Answer) → given st y msg rooms a ≡ takes step next
-      → (roomFor st (bitsKnown st a) rooms ≡ true) × (step ≡ stepOf st y (length msg) a) × (next ≡ writtenQuestion (planned (stepOf st y (length msg) a .state)))
+module _ (st : Rebuilder) (y : List ℕ) (bits : ℕ) (msg : List ℕ) (capacities : Capacities) (step : Step) (next : List ℕ) where
+  given-taken : (a : Answer) → given st y msg capacities a ≡ takes step next
+      → (enoughFor st (bitsKnown st a) capacities ≡ true) × (step ≡ stepOf st y (length msg) a) × (next ≡ writtenQuestion (planned (stepOf st y (length msg) a .state)))
   given-taken a e =
-      let u = unless-passed (roomFor st (bitsKnown st a) rooms) BufferTooShort _ _ e in
+      let u = unless-passed (enoughFor st (bitsKnown st a) capacities) BufferTooShort _ _ e in
       let f = value-is (u .1) in
       (u .0, sym (ap (λ (z : Taken). z .step) f), sym (ap (λ (z : Taken). z .question) f))
 
-  pub taken-call : rebuilderCall st y bits msg rooms ≡ takes step next → TakenCall st y msg rooms step next
+  pub taken-call : rebuilderCall st y bits msg capacities ≡ takes step next → TakenCall st y msg capacities step next
   unfolding rebuilderCall
   taken-call e =
       let u = unless-passed (stringRule y bits && eqb (st .ybits) bits) BadString _ _ e in
       let v = unless-passed (sound st) OutOfTurn _ _ (u .1) in
       go (v .0) (planned st) refl (v .1)
     where
-      go : sound st ≡ true → (o : Option Question) → planned st ≡ o → awaits st y msg rooms o ≡ takes step next → TakenCall st y msg rooms step next
+      go : sound st ≡ true → (o : Option Question) → planned st ≡ o → awaits st y msg capacities o ≡ takes step next → TakenCall st y msg capacities step next
       go s none k f = absurd (no-value (refusalNumber OutOfTurn) _ f)
       go s (some q) k f =
-          let h = then-passed (readAnswer (questionKind q) (questionLength q) (st .settings .h) msg) (given st y msg rooms) _ f in
+          let h = then-passed (readAnswer (questionKind q) (questionLength q) (st .settings .h) msg) (given st y msg capacities) _ f in
           let g = given-taken (h .0) (h .2) in
-          record { sound-before = s; q = q; asked = k; a = h .0; read = h .1; room = g .0; steps = g .1; asks = g .2 }
+          record { sound-before = s; q = q; asked = k; a = h .0; read = h .1; capacity = g .0; steps = g .1; asks = g .2 }
 
 -- every state from a call of the rebuilder is sound
-pub call-sound : (st : Rebuilder) (y : List ℕ) (bits : ℕ) (msg : List ℕ) (rooms : Rooms) (step : Step) (next : List ℕ) → length (st .pieces) ≡ 32 → Bytes msg → rebuilderCall st y bits msg rooms ≡ takes step next
+pub call-sound : (st : Rebuilder) (y : List ℕ) (bits : ℕ) (msg : List ℕ) (capacities : Capacities) (step : Step) (next : List ℕ) → length (st .pieces) ≡ 32 → Bytes msg → rebuilderCall st y bits msg capacities ≡ takes step next
     → (sound (step .state) ≡ true) × (length (step .state .pieces) ≡ 32)
 unfolding sizeOf
-call-sound st y bits msg rooms step next arr by e =
-    let t = taken-call st y bits msg rooms step next e in
+call-sound st y bits msg capacities step next arr by e =
+    let t = taken-call st y bits msg capacities step next e in
     let f = answer-form (questionKind (t .q)) (questionLength (t .q)) (st .settings .h) msg (t .a) (t .read) in
     rw (t .steps) (step-sound st y (t .q) (t .a) (length msg) arr (t .sound-before) (t .asked) (f .proper) (ap length (f .bytes by)))

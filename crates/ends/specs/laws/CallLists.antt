@@ -22,21 +22,21 @@ use Rattle.ends.specs.laws.Delivery.{NotOpen, NotOpening, StartedIs, adv
 use Rattle.ends.specs.HolderCall.{afterAnswer, freshHolder, holderCall, inTurn, replies, sameBitCount, sends, Reply}
 use Rattle.ends.specs.laws.HolderLaws.{Made, OpenedIs, counts, fresh-holder-sound, heard-call, heard-made, holder-sound, opened-sound, opens, same-count}
 use Rattle.ends.specs.laws.Invariant.{Truth, proper-now, question-inside, run-ok, sizeOfRun}
-use Rattle.ends.specs.laws.Kept.{bytesOf, count-is, kept}
+use Rattle.ends.specs.laws.Kept.{answerLengths, count-is, kept}
 use Rattle.ends.specs.Claims.{rowsAtFront, zeroed, zeroedNext}
 use Rattle.strings.specs.SettingLimits.{Limits}
-use Rattle.ends.specs.RebuilderCall.{Step, Taken, bitsKnown, freshRebuilder, questionLength, rebuilderCall, roomFor, sheetAfter, stepOf, stringAfter, takes, writtenQuestion}
-use Rattle.ends.specs.Runs.{Honest, Run, advance, answer, countOf, opening, piecesOf, question, run, sheetOf, sizeOf, string, told, whole, working, full}
+use Rattle.ends.specs.RebuilderCall.{Step, Taken, bitsKnown, freshRebuilder, questionLength, rebuilderCall, enoughFor, sheetAfter, stepOf, stringAfter, takes, writtenQuestion}
+use Rattle.ends.specs.Runs.{Honest, Run, advance, answer, countOf, opening, piecesOf, question, run, sheetOf, sizeOf, string, honestAnswer, whole, working, full}
 use Rattle.ends.specs.Segments.{asks, settled}
-use Rattle.ends.specs.laws.Shape.{Inside, Proper, sizes}
+use Rattle.ends.specs.laws.Shape.{Inside, ProperFor, sizes}
 use Rattle.strings.specs.laws.Tests.{and-true, true-false}
 use Rattle.ends.specs.laws.SoundSteps.{fresh-sound, step-sound}
 use Rattle.ends.specs.Soundness.{sound, mostAnswers}
 use Rattle.ends.specs.laws.Standing.{Stands}
 use Rattle.ends.specs.States.{planned}
-use Rattle.ends.specs.laws.Steps.{RoomFor, stands-step}
+use Rattle.ends.specs.laws.Steps.{EnoughFor, stands-step}
 use Rattle.ends.specs.laws.Store.{Tidy, asks-same, keeps-pace, storeOf}
-use Rattle.ends.specs.Worlds.{IsAnswer, Call, Delivered, Earlier, Fair, FairCall, Lent, Member, OnceEach, Supposed, World, afterHeard, afterTaken, bitsOfX, bitsOfY, countedBytes, firstWorld, roomsOf, sent, stepWorld, toHolder, toRebuilder, world, worldAfter}
+use Rattle.ends.specs.Worlds.{IsAnswer, Call, Delivered, Earlier, Fair, FairCall, Lent, Member, OnceEach, Supposed, World, afterHeard, afterTaken, bitsOfX, bitsOfY, countedBytes, firstWorld, capacitiesOf, sent, stepWorld, toHolder, toRebuilder, world, worldAfter}
 use Rattle.ends.specs.declared.Holder.{Holder}
 use Rattle.ends.specs.declared.Rebuilder.{Rebuilder}
 use Rattle.ends.specs.declared.Row.{Row}
@@ -57,8 +57,8 @@ module _ (c : Lent) (r₀ : Rebuilder) (q₀ : List ℕ) (bs₀ : List ℕ) (sh�
   abbrev Y : List Bool
   Y = bitsOfY c
 
-  begun : StartedIs (c .settings) (c .y) (c .ybits) (c .questionRoom) r₀ q₀
-  begun = started-is (c .settings) (c .y) (c .ybits) (c .questionRoom) r₀ q₀ (sup .started)
+  begun : StartedIs (c .settings) (c .y) (c .ybits) (c .questionCapacity) r₀ q₀
+  begun = started-is (c .settings) (c .y) (c .ybits) (c .questionCapacity) r₀ q₀ (sup .started)
 
   L : Limits S
   L = begun .limits
@@ -95,14 +95,14 @@ module _ (c : Lent) (r₀ : Rebuilder) (q₀ : List ℕ) (bs₀ : List ℕ) (sh�
       size-known (working n k segs rows) m t = t .0
       size-known (whole n k segs rows) m t = t .0
 
-  proper : (l : List Answer) → Honest S X Y l → (q : Question) → question S (run S Y l) ≡ some q → Proper S q (told S X q)
+  proper : (l : List Answer) → Honest S X Y l → (q : Question) → question S (run S Y l) ≡ some q → ProperFor S q (honestAnswer S X q)
   proper l h q k = let v = run-ok S X Y L nX l h in proper-now S X Y L nX (length l) (run S Y l) q (v .0) (v .1) k
 
-  reply-short : (l : List Answer) → Honest S X Y l → (q : Question) → question S (run S Y l) ≡ some q → length (answerBytes (told S X q)) ≤ max 9 (full (c .xbits))
+  reply-short : (l : List Answer) → Honest S X Y l → (q : Question) → question S (run S Y l) ≡ some q → length (answerBytes (honestAnswer S X q)) ≤ max 9 (full (c .xbits))
   unfolding sizeOf
   reply-short l h q k =
       let r = in-range l h q k in
-      sizes S (c .xbits) x-few q (told S X q) (inside-of q r) (proper l h q k)
+      sizes S (c .xbits) x-few q (honestAnswer S X q) (inside-of q r) (proper l h q k)
     where
       inside-of : (q : Question) → InRange (c .xbits) q → Inside (c .xbits) q
       inside-of (AskOpen h key) r = tt
@@ -117,15 +117,15 @@ module _ (c : Lent) (r₀ : Rebuilder) (q₀ : List ℕ) (bs₀ : List ℕ) (sh�
     pub tidy : Tidy S (run S Y l)
     pub sound-now : sound r ≡ true
     pub answered : r .answered ≡ length l
-    pub string-room : length bs ≡ length bs₀
-    pub sheet-room : length sh ≡ length sh₀
+    pub string-length : length bs ≡ length bs₀
+    pub sheet-length : length sh ≡ length sh₀
     pub asks : w ≡ writtenQuestion (question S (run S Y l))
 
   planned-is : (r : Rebuilder) (bs : List ℕ) (sh : List Row) (w : List ℕ) (l : List Answer) → Rep r bs sh w l → planned r ≡ question S (run S Y l)
   planned-is r bs sh w l k = asks-planned (k .stands) ∙ asks-same S (run S Y l)
 
   -- the bits that the call counts its buffers by
-  bits-known : (r : Rebuilder) (bs : List ℕ) (sh : List Row) (z : ℕ) (s : Run) (q : Question) → Stands S (length Y) bs₀ sh₀ z r bs sh (storeOf s) → Truth S X s → question S s ≡ some q → bitsKnown r (told S X q) ≡ c .xbits
+  bits-known : (r : Rebuilder) (bs : List ℕ) (sh : List Row) (z : ℕ) (s : Run) (q : Question) → Stands S (length Y) bs₀ sh₀ z r bs sh (storeOf s) → Truth S X s → question S s ≡ some q → bitsKnown r (honestAnswer S X q) ≡ c .xbits
   bits-known r bs sh z opening q h t k =
       let hi = h .is in
       let ep : r .phase ≡ AtOpening = cc in
@@ -142,10 +142,10 @@ module _ (c : Lent) (r₀ : Rebuilder) (q₀ : List ℕ) (bs₀ : List ℕ) (sh�
       let en : n ≡ r .n = cc in
       rw ep (sym en ∙ t .0 ∙ x-length)
 
-  room-for : (s : Run) (q : Question) → Truth S X s → question S s ≡ some q → RoomFor S s (told S X q) bs₀ sh₀
-  room-for opening q t k = let e : AskOpen (S .h) (S .key) ≡ q = cc in rw (← e, x-length) (sup .string, sup .sheet)
-  room-for (working n d segs rows) q t k = let e : n ≡ c .xbits = t .0 ∙ x-length in rw e (sup .string, sup .sheet)
-  room-for (whole n d segs rows) q t k = let e : n ≡ c .xbits = t .0 ∙ x-length in rw e (sup .string, sup .sheet)
+  enough-now : (s : Run) (q : Question) → Truth S X s → question S s ≡ some q → EnoughFor S s (honestAnswer S X q) bs₀ sh₀
+  enough-now opening q t k = let e : AskOpen (S .h) (S .key) ≡ q = cc in rw (← e, x-length) (sup .string, sup .sheet)
+  enough-now (working n d segs rows) q t k = let e : n ≡ c .xbits = t .0 ∙ x-length in rw e (sup .string, sup .sheet)
+  enough-now (whole n d segs rows) q t k = let e : n ≡ c .xbits = t .0 ∙ x-length in rw e (sup .string, sup .sheet)
 
   -- while a question waits no row is set to zeros: the whole string's answer is the last
   none-zeroed : (l : List Answer) (q : Question) → question S (run S Y l) ≡ some q → zeroed S Y l ≡ 0
@@ -159,7 +159,7 @@ module _ (c : Lent) (r₀ : Rebuilder) (q₀ : List ℕ) (bs₀ : List ℕ) (sh�
 
   module _ (r : Rebuilder) (bs : List ℕ) (sh : List Row) (w : List ℕ) (l : List Answer) (k : Rep r bs sh w l) (q : Question) (wq : question S (run S Y l) ≡ some q) where
     abbrev a : Answer
-    a = told S X q
+    a = honestAnswer S X q
 
     abbrev m : List ℕ
     m = answerBytes a
@@ -167,19 +167,19 @@ module _ (c : Lent) (r₀ : Rebuilder) (q₀ : List ℕ) (bs₀ : List ℕ) (sh�
     abbrev next : Step
     next = stepOf r (c .y) (length m) a
 
-    room-true : roomFor r (bitsKnown r a) (roomsOf c bs sh) ≡ true
-    room-true =
+    enough-true : enoughFor r (bitsKnown r a) (capacitiesOf c bs sh) ≡ true
+    enough-true =
         let v = run-ok S X Y L nX l (k .honest) in
         let e = bits-known r bs sh (zeroed S Y l) (run S Y l) q (k .stands) (v .1) wq in
         let u = sup .string in let s = sup .sheet in
-        let x = k .string-room in let y = k .sheet-room in
-        let g : 8 ≤ c .questionRoom = begun .enough in
+        let x = k .string-length in let y = k .sheet-length in
+        let g : 8 ≤ c .questionCapacity = begun .enough in
         let st = k .stands .settings in
         rw (e, st)
         (and-true (leb (bytesFor (c .xbits)) (length bs)) _ (le-leb (bytesFor (c .xbits)) (length bs) (omega arith))
-        (and-true (leb (2 * (c .xbits / c .settings .m) + 1) (length sh)) (leb 8 (c .questionRoom)) (le-leb (2 * (c .xbits / c .settings .m) + 1) (length sh) (omega arith)) (le-leb 8 (c .questionRoom) g)))
+        (and-true (leb (2 * (c .xbits / c .settings .m) + 1) (length sh)) (leb 8 (c .questionCapacity)) (le-leb (2 * (c .xbits / c .settings .m) + 1) (length sh) (omega arith)) (le-leb 8 (c .questionCapacity) g)))
 
-    pub takes-it : rebuilderCall r (c .y) (c .ybits) m (roomsOf c bs sh) ≡ takes next (writtenQuestion (planned (next .state)))
+    pub takes-it : rebuilderCall r (c .y) (c .ybits) m (capacitiesOf c bs sh) ≡ takes next (writtenQuestion (planned (next .state)))
     unfolding rebuilderCall
     takes-it =
         let yb : r .ybits ≡ c .ybits = k .stands .copy ∙ y-length in
@@ -189,7 +189,7 @@ module _ (c : Lent) (r₀ : Rebuilder) (q₀ : List ℕ) (bs₀ : List ℕ) (sh�
         let rd : readAnswer (questionKind q) (questionLength q) (r .settings .h) m ≡ value a =
         ap (λ (z : ℕ). readAnswer (questionKind q) (questionLength q) z m) st
         ∙ answer-reads (questionLength q) (S .h) (length-most (c .xbits) q x-few rg) (L .h-most) (questionKind q) a (proper l (k .honest) q wq) in
-        rw (begun .string, eq-eqb (r .ybits) (c .ybits) yb, k .sound-now, pl, rd, room-true) refl
+        rw (begun .string, eq-eqb (r .ybits) (c .ybits) yb, k .sound-now, pl, rd, enough-true) refl
 
     -- and then stands for the run with this answer
     pub rep-next : Rep (next .state) (stringAfter bs (next .string)) (sheetAfter sh (next .sheet)) (writtenQuestion (planned (next .state))) (a ∷ l)
@@ -201,7 +201,7 @@ module _ (c : Lent) (r₀ : Rebuilder) (q₀ : List ℕ) (bs₀ : List ℕ) (sh�
         let kp = keeps-pace S Y L (length l) (run S Y l) q a o (v .0) (k .tidy) wq in
         let sn = step-sound r (c .y) q a (length m) (k .stands .array) (k .sound-now) pl (rw (k .stands .settings) o) refl in
         let sk : Stands S (length Y) bs₀ sh₀ 0 r bs sh (storeOf (run S Y l)) = rw (none-zeroed l q wq) at (k .stands) in
-        let ss = stands-step S Y L (c .y) y-range bs₀ sh₀ r bs sh (length l) (run S Y l) q a (length m) sk (v .0) wq o refl (room-for (run S Y l) q (v .1) wq) in
+        let ss = stands-step S Y L (c .y) y-range bs₀ sh₀ r bs sh (length l) (run S Y l) q a (length m) sk (v .0) wq o refl (enough-now (run S Y l) q (v .1) wq) in
         let st : Stands S (length Y) bs₀ sh₀ (zeroed S Y (a ∷ l)) (next .state) (stringAfter bs (next .string)) (sheetAfter sh (next .sheet)) (storeOf (run S Y (a ∷ l))) = rw (kp .0) ss in
         let an = step-answered r (c .y) q a (length m) (k .stands .array) (k .sound-now) pl in
         let ka = k .answered in
@@ -211,8 +211,8 @@ module _ (c : Lent) (r₀ : Rebuilder) (q₀ : List ℕ) (bs₀ : List ℕ) (sh�
           tidy = kp .1;
           sound-now = sn .0;
           answered = omega arith;
-          string-room = string-length-after bs (next .string) ∙ k .string-room;
-          sheet-room = sheet-length-after sh (next .sheet) ∙ k .sheet-room;
+          string-length = string-length-after bs (next .string) ∙ k .string-length;
+          sheet-length = sheet-length-after sh (next .sheet) ∙ k .sheet-length;
           asks = ap writtenQuestion (asks-planned st ∙ asks-same S (run S Y (a ∷ l)));
         }
 
@@ -222,12 +222,12 @@ module _ (c : Lent) (r₀ : Rebuilder) (q₀ : List ℕ) (bs₀ : List ℕ) (sh�
     unopened : H ≡ freshHolder → hs ≡ [] → HolderIs H hs
     hasOpened : OpenedIs H → H .bits ≡ c .xbits → H .answers ≡ length hs → (m : List ℕ) → Member m hs → readQuestion m (c .xbits) ≡ value (AskOpen (H .h) (H .key)) → HolderIs H hs
 
-  holder-step : (H H′ : Holder) (hs : List (List ℕ)) (m b : List ℕ) → HolderIs H hs → holderCall H (c .x) (c .xbits) m (c .replyRoom) ≡ replies H′ b → HolderIs H′ (m ∷ hs)
+  holder-step : (H H′ : Holder) (hs : List (List ℕ)) (m b : List ℕ) → HolderIs H hs → holderCall H (c .x) (c .xbits) m (c .replyCapacity) ≡ replies H′ b → HolderIs H′ (m ∷ hs)
   holder-step H H′ hs m b i e =
-      let k = heard-call H (c .x) (c .xbits) m (c .replyRoom) H′ b e in
-      let o = holder-sound H (c .x) (c .xbits) m (c .replyRoom) H′ b e in
+      let k = heard-call H (c .x) (c .xbits) m (c .replyCapacity) H′ b e in
+      let o = holder-sound H (c .x) (c .xbits) m (c .replyCapacity) H′ b e in
       let rq : readQuestion m (c .xbits) ≡ value (k .q) = question-known m (c .xbits) (k .known) ∙ k .fields in
-      go (k .q) rq o i (heard-made H (c .x) (c .xbits) m (c .replyRoom) H′ b k)
+      go (k .q) rq o i (heard-made H (c .x) (c .xbits) m (c .replyCapacity) H′ b k)
     where
       go : (q : Question) → readQuestion m (c .xbits) ≡ value q → OpenedIs H′ → HolderIs H hs → Made H (c .xbits) q H′ → HolderIs H′ (m ∷ hs)
       go q rq o (unopened f n) (opens z h key d w e) =
@@ -267,15 +267,15 @@ module _ (c : Lent) (r₀ : Rebuilder) (q₀ : List ℕ) (bs₀ : List ℕ) (sh�
   turn-true (AskSyndrome x p) n = refl
   turn-true (AskBits x p) n = refl
 
-  sends-it : (H : Holder) (l : List Answer) (q : Question) → Honest S X Y l → question S (run S Y l) ≡ some q → (next : Holder) → sends (c .replyRoom) next (answerBytes (told S X q)) ≡ replies next (answerBytes (told S X q))
+  sends-it : (H : Holder) (l : List Answer) (q : Question) → Honest S X Y l → question S (run S Y l) ≡ some q → (next : Holder) → sends (c .replyCapacity) next (answerBytes (honestAnswer S X q)) ≡ replies next (answerBytes (honestAnswer S X q))
   unfolding sends
   sends-it H l q h k next =
       let s = reply-short l h q k in let u = sup .reply in
-      rw (le-leb (length (answerBytes (told S X q))) (c .replyRoom) (omega arith)) refl
+      rw (le-leb (length (answerBytes (honestAnswer S X q))) (c .replyCapacity) (omega arith)) refl
 
   -- "A holder that had taken each earlier question once and nothing else replies exactly this"
   pub holder-replies : (H : Holder) (hs : List (List ℕ)) (l : List Answer) (q : Question) → Honest S X Y l → HolderIs H hs → OnceEach S Y l hs → question S (run S Y l) ≡ some q
-      → (H′ : Holder) × (holderCall H (c .x) (c .xbits) (questionBytes q) (c .replyRoom) ≡ replies H′ (answerBytes (told S X q)))
+      → (H′ : Holder) × (holderCall H (c .x) (c .xbits) (questionBytes q) (c .replyCapacity) ≡ replies H′ (answerBytes (honestAnswer S X q)))
   unfolding holderCall sameBitCount
   holder-replies H hs [] q h (unopened f n) o k =
       let e : AskOpen (S .h) (S .key) ≡ q = cc in
@@ -296,7 +296,7 @@ module _ (c : Lent) (r₀ : Rebuilder) (q₀ : List ℕ) (bs₀ : List ℕ) (sh�
       let r = in-range (b ∷ l) h q k in
       let t : inTurn (H .opened) (questionKind q) ≡ true = rw (p .opened) (turn-true q no) in
       let rf = question-fields-read q (c .xbits) x-few r in
-      let ans : answer (H .h) (H .key) X q ≡ told S X q = ap₂ (λ (i j : ℕ). answer i j X q) (hk .0) (hk .1) in
+      let ans : answer (H .h) (H .key) X q ≡ honestAnswer S X q = ap₂ (λ (i j : ℕ). answer i j X q) (hk .0) (hk .1) in
       let sc = same-count H (c .xbits) bt in (
         afterAnswer H (c .xbits) q,
         rw (sup .reference, sc, opened-sound H p, lt-ltb (H .answers) mostAnswers (omega arith), question-kind-reads q) (rw (t, rf, ans) (sends-it H (b ∷ l) q h k (afterAnswer H (c .xbits) q))),
@@ -308,10 +308,10 @@ module _ (c : Lent) (r₀ : Rebuilder) (q₀ : List ℕ) (bs₀ : List ℕ) (sh�
 
   -- a fair message is the answer to the run's question
   fair-is : (w m : List ℕ) (l : List Answer) → Honest S X Y l → w ≡ writtenQuestion (question S (run S Y l)) → IsAnswer c w m
-      → (q : Question) × (question S (run S Y l) ≡ some q) × (m ≡ answerBytes (told S X q))
+      → (q : Question) × (question S (run S Y l) ≡ some q) × (m ≡ answerBytes (honestAnswer S X q))
   fair-is w m l h e f = go (question S (run S Y l)) refl
     where
-      go : (o : Option Question) → question S (run S Y l) ≡ o → (q : Question) × (question S (run S Y l) ≡ some q) × (m ≡ answerBytes (told S X q))
+      go : (o : Option Question) → question S (run S Y l) ≡ o → (q : Question) × (question S (run S Y l) ≡ some q) × (m ≡ answerBytes (honestAnswer S X q))
       go none k =
           let z : readQuestion [] (c .xbits) ≡ value (f .0) = ap (λ (u : List ℕ). readQuestion u (c .xbits)) (sym (e ∙ ap writtenQuestion k)) ∙ f .1 in
           absurd (empty-no-question (c .xbits) (f .0) z)
@@ -319,14 +319,14 @@ module _ (c : Lent) (r₀ : Rebuilder) (q₀ : List ℕ) (bs₀ : List ℕ) (sh�
           let r = question-reads q (c .xbits) x-few (in-range l h q k) in
           let z : readQuestion (questionBytes q) (c .xbits) ≡ value (f .0) = ap (λ (u : List ℕ). readQuestion u (c .xbits)) (sym (e ∙ ap writtenQuestion k)) ∙ f .1 in
           let d : f .0 ≡ q = cc in
-          (q, k, f .2 ∙ ap (λ (u : Question). answerBytes (told S X u)) d)
+          (q, k, f .2 ∙ ap (λ (u : Question). answerBytes (honestAnswer S X u)) d)
 
   rebuilder-known : (H : Holder) (r : Rebuilder) (bs : List ℕ) (sh : List Row) (w : List ℕ) (hs ts : List (List ℕ)) (m : List ℕ) → Known (world H r bs sh w hs ts)
-      → ((s : Step) (q′ : List ℕ) → rebuilderCall r (c .y) (c .ybits) m (roomsOf c bs sh) ≡ takes s q′ → IsAnswer c w m)
-      → Known (afterTaken (world H r bs sh w hs ts) m (rebuilderCall r (c .y) (c .ybits) m (roomsOf c bs sh)))
-  rebuilder-known H r bs sh w hs ts m k f = go (rebuilderCall r (c .y) (c .ybits) m (roomsOf c bs sh)) refl
+      → ((s : Step) (q′ : List ℕ) → rebuilderCall r (c .y) (c .ybits) m (capacitiesOf c bs sh) ≡ takes s q′ → IsAnswer c w m)
+      → Known (afterTaken (world H r bs sh w hs ts) m (rebuilderCall r (c .y) (c .ybits) m (capacitiesOf c bs sh)))
+  rebuilder-known H r bs sh w hs ts m k f = go (rebuilderCall r (c .y) (c .ybits) m (capacitiesOf c bs sh)) refl
     where
-      go : (o : Result Taken) → rebuilderCall r (c .y) (c .ybits) m (roomsOf c bs sh) ≡ o → Known (afterTaken (world H r bs sh w hs ts) m o)
+      go : (o : Result Taken) → rebuilderCall r (c .y) (c .ybits) m (capacitiesOf c bs sh) ≡ o → Known (afterTaken (world H r bs sh w hs ts) m o)
       go (refusal number) i = k
       go (value tk) i =
           let s = tk .step in
@@ -337,16 +337,16 @@ module _ (c : Lent) (r₀ : Rebuilder) (q₀ : List ℕ) (bs₀ : List ℕ) (sh�
           let q = fa .0 in
           let ti = takes-it r bs sh w (k .0) rep (fa .0) (fa .1) in
           let rn = rep-next r bs sh w (k .0) rep (fa .0) (fa .1) in
-          let st = stepOf r (c .y) (length (answerBytes (told S X (fa .0)))) (told S X (fa .0)) in
-          let e : value tk ≡ takes st (writtenQuestion (planned (st .state))) = sym i ∙ ap (λ (z : List ℕ). rebuilderCall r (c .y) (c .ybits) z (roomsOf c bs sh)) (fa .2) ∙ ti in
+          let st = stepOf r (c .y) (length (answerBytes (honestAnswer S X (fa .0)))) (honestAnswer S X (fa .0)) in
+          let e : value tk ≡ takes st (writtenQuestion (planned (st .state))) = sym i ∙ ap (λ (z : List ℕ). rebuilderCall r (c .y) (c .ybits) z (capacitiesOf c bs sh)) (fa .2) ∙ ti in
           subst (λ (o : Result Taken). Known (afterTaken (world H r bs sh w hs ts) m o)) (sym e)
-          (told S X (fa .0) ∷ k .0, rn, ap₂ (λ (u : List ℕ) (v : List (List ℕ)). u ∷ v) (fa .2) (k .2), k .3)
+          (honestAnswer S X (fa .0) ∷ k .0, rn, ap₂ (λ (u : List ℕ) (v : List (List ℕ)). u ∷ v) (fa .2) (k .2), k .3)
 
   holder-known : (H : Holder) (r : Rebuilder) (bs : List ℕ) (sh : List Row) (w : List ℕ) (hs ts : List (List ℕ)) (m : List ℕ) → Known (world H r bs sh w hs ts)
-      → Known (afterHeard (world H r bs sh w hs ts) m (holderCall H (c .x) (c .xbits) m (c .replyRoom)))
-  holder-known H r bs sh w hs ts m k = go (holderCall H (c .x) (c .xbits) m (c .replyRoom)) refl
+      → Known (afterHeard (world H r bs sh w hs ts) m (holderCall H (c .x) (c .xbits) m (c .replyCapacity)))
+  holder-known H r bs sh w hs ts m k = go (holderCall H (c .x) (c .xbits) m (c .replyCapacity)) refl
     where
-      go : (o : Result Reply) → holderCall H (c .x) (c .xbits) m (c .replyRoom) ≡ o → Known (afterHeard (world H r bs sh w hs ts) m o)
+      go : (o : Result Reply) → holderCall H (c .x) (c .xbits) m (c .replyCapacity) ≡ o → Known (afterHeard (world H r bs sh w hs ts) m o)
       go (refusal number) i = k
       go (value a) i = (k .0, k .1, k .2, holder-step H (a .state) hs m (a .message) (k .3) i)
 
@@ -368,8 +368,8 @@ module _ (c : Lent) (r₀ : Rebuilder) (q₀ : List ℕ) (bs₀ : List ℕ) (sh�
           tidy = tt;
           sound-now = fs .0;
           answered = refl;
-          string-room = refl;
-          sheet-room = refl;
+          string-length = refl;
+          sheet-length = refl;
           asks = refl;
         },
         refl,
@@ -385,7 +385,7 @@ module _ (c : Lent) (r₀ : Rebuilder) (q₀ : List ℕ) (bs₀ : List ℕ) (sh�
   sent-length [] = refl
   sent-length (a ∷ l) = ap suc (sent-length l)
 
-  bytes-sent : (l : List Answer) → countedBytes (sent l) ≡ bytesOf l
+  bytes-sent : (l : List Answer) → countedBytes (sent l) ≡ answerLengths l
   unfolding sizeOf
   bytes-sent [] = refl
   bytes-sent (a ∷ []) = refl
@@ -425,7 +425,7 @@ module _ (c : Lent) (r₀ : Rebuilder) (q₀ : List ℕ) (bs₀ : List ℕ) (sh�
       let kp = kept S X Y L nX (length l) (run S Y l) (v .0) (v .1) in
       let sw = shows (zeroed S Y (k .0)) r bs sh (run S Y (k .0)) (rep .stands) in
       let sl : length ts ≡ length l = ap length (k .2) ∙ sent-length (k .0) in
-      let cb : countedBytes ts ≡ bytesOf l = ap countedBytes (k .2) ∙ bytes-sent (k .0) in
+      let cb : countedBytes ts ≡ answerLengths l = ap countedBytes (k .2) ∙ bytes-sent (k .0) in
       let ci = count-is S Y (k .0) in
       let s₁ = sw .counted in
       let ka = rep .answered in
@@ -436,7 +436,7 @@ module _ (c : Lent) (r₀ : Rebuilder) (q₀ : List ℕ) (bs₀ : List ℕ) (sh�
           messages = k .2;
           honest = rep .honest;
           asks = rep .asks;
-          accepts = λ q e. (stepOf r (c .y) (length (answerBytes (told S X q))) (told S X q), writtenQuestion (planned (stepOf r (c .y) (length (answerBytes (told S X q))) (told S X q) .state)), takes-it r bs sh w (k .0) rep q e);
+          accepts = λ q e. (stepOf r (c .y) (length (answerBytes (honestAnswer S X q))) (honestAnswer S X q), writtenQuestion (planned (stepOf r (c .y) (length (answerBytes (honestAnswer S X q))) (honestAnswer S X q) .state)), takes-it r bs sh w (k .0) rep q e);
           replied = λ q e o. holder-replies H hs (k .0) q (rep .honest) (k .3) o e;
           answered = omega arith;
           questions = omega arith;

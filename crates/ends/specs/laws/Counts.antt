@@ -160,7 +160,7 @@ module _ (S : Settings) (L : Limits S) where
   begin-norow x (suc p) ys = refl
 
   pub cut : (p s : ℕ) → Fit S p s → s / S .m + (p - (s + S .m)) / S .m + 1 ≤ p / S .m
-  cut p s f = let a = L .m-least in let b = f .room in split-div (S .m) s (p - (s + S .m)) p (omega arith) (omega arith)
+  cut p s f = let a = L .m-least in let b = f .inside in split-div (S .m) s (p - (s + S .m)) p (omega arith) (omega arith)
 
   pub falls-pot : (p : ℕ) (ys : List Bool) (t : Stage) (e : Effect) → Sane S p t e → 1 + total (pot S) (made S p ys e) ≤ pot S (waiting p ys t)
   falls-pot p ys t (settles w b) h = let k = before-most t in omega arith

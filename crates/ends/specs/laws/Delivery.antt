@@ -130,10 +130,10 @@ step-answered st y q a size arr s k = let f = sound-is st s in go (phase-of st q
     go (isWhole p i e) = rw (step-whole st y size a p) (whole-answered st size (theBits a))
 
 -- ---- the start
-pub record StartedIs (S : Settings) (y : List ℕ) (bits room : ℕ) (r : Rebuilder) (q : List ℕ) : Type 0 where
+pub record StartedIs (S : Settings) (y : List ℕ) (bits capacity : ℕ) (r : Rebuilder) (q : List ℕ) : Type 0 where
   pub limits : Limits S
   pub string : stringRule y bits ≡ true
-  pub enough : 8 ≤ room
+  pub enough : 8 ≤ capacity
   pub state : r ≡ freshRebuilder S bits
   pub question : q ≡ questionBytes (AskOpen (S .h) (S .key))
 

@@ -30,7 +30,7 @@ use Rattle.strings.specs.laws.Tests.{and-left, both, and-right}
 use Rattle.strings.specs.declared.Refusal.the-variants.{BadString, BufferTooShort, OutOfTurn}
 
 -- ---- a call of the holder that was answered
-pub record HeardCall (st : Holder) (x : List ℕ) (bits : ℕ) (msg : List ℕ) (room : ℕ) (next : Holder) (reply : List ℕ) : Type 0 where
+pub record HeardCall (st : Holder) (x : List ℕ) (bits : ℕ) (msg : List ℕ) (capacity : ℕ) (next : Holder) (reply : List ℕ) : Type 0 where
   pub few : bits ≤ maxBits
   pub sound-before : holderSound st ≡ true
   pub left : st .answers < mostAnswers
@@ -43,17 +43,17 @@ pub record HeardCall (st : Holder) (x : List ℕ) (bits : ℕ) (msg : List ℕ) 
   pub after : next ≡ afterAnswer st bits q
   pub sends : reply ≡ answerBytes (answer (st .h) (st .key) (range x 0 bits) q)
 
-module _ (st : Holder) (x : List ℕ) (bits : ℕ) (msg : List ℕ) (room : ℕ) (next : Holder) (reply : List ℕ) where
-  pub heard-call : holderCall st x bits msg room ≡ replies next reply → HeardCall st x bits msg room next reply
+module _ (st : Holder) (x : List ℕ) (bits : ℕ) (msg : List ℕ) (capacity : ℕ) (next : Holder) (reply : List ℕ) where
+  pub heard-call : holderCall st x bits msg capacity ≡ replies next reply → HeardCall st x bits msg capacity next reply
   unfolding holderCall sends
   heard-call e =
       let u = unless-passed (stringRule x bits && sameBitCount st bits) BadString _ _ e in
       let v = unless-passed (holderSound st && ltb (st .answers) mostAnswers) OutOfTurn _ _ (u .1) in
-      let w = then-passed (kindAt msg) (λ (k, at). ofKind st x bits msg room k at) _ (v .1) in
+      let w = then-passed (kindAt msg) (λ (k, at). ofKind st x bits msg capacity k at) _ (v .1) in
       let f = unless-passed (inTurn (st .opened) (w .0 .0)) OutOfTurn _ _ (w .2) in
-      let g = then-passed (fieldsAt (w .0 .0) msg (w .0 .1) bits) (answersTo st x bits room) _ (f .1) in
+      let g = then-passed (fieldsAt (w .0 .0) msg (w .0 .1) bits) (answersTo st x bits capacity) _ (f .1) in
       let m = answerBytes (answer (st .h) (st .key) (range x 0 bits) (g .0)) in
-      let h = unless-passed (leb (length m) room) BufferTooShort _ _ (g .2) in
+      let h = unless-passed (leb (length m) capacity) BufferTooShort _ _ (g .2) in
       let d = value-is (h .1) in
       record {
         few = rule-is x bits (and-left (stringRule x bits) (sameBitCount st bits) (u .0)) .few;
@@ -122,8 +122,8 @@ pub data Made (st : Holder) (bits : ℕ) (q : Question) (next : Holder) : Type 0
   opens : st .opened ≡ false → (h key : ℕ) → AskOpen h key ≡ q → OpeningWithin h key → next ≡ record { opened = true; bits = bits; h = h; key = key; answers = 1 } → Made st bits q next
   counts : st .opened ≡ true → (questionKind q ≡ Open → ⊥) → next ≡ record { opened = st .opened; bits = st .bits; h = st .h; key = st .key; answers = st .answers + 1 } → Made st bits q next
 
-pub heard-made : (st : Holder) (x : List ℕ) (bits : ℕ) (msg : List ℕ) (room : ℕ) (next : Holder) (reply : List ℕ) (k : HeardCall st x bits msg room next reply) → Made st bits (k .q) next
-heard-made st x bits msg room next reply k = go (k .q) (turn-open (st .opened) (k .kind) (k .turn)) (fields-within (k .kind) msg (k .at) bits (k .q) (k .fields)) (k .after)
+pub heard-made : (st : Holder) (x : List ℕ) (bits : ℕ) (msg : List ℕ) (capacity : ℕ) (next : Holder) (reply : List ℕ) (k : HeardCall st x bits msg capacity next reply) → Made st bits (k .q) next
+heard-made st x bits msg capacity next reply k = go (k .q) (turn-open (st .opened) (k .kind) (k .turn)) (fields-within (k .kind) msg (k .at) bits (k .q) (k .fields)) (k .after)
   where
     go : (q : Question) → ((k .kind ≡ Open) × (st .opened ≡ false)) ⊎ ((k .kind ≡ Open → ⊥) × (st .opened ≡ true)) → (questionKind q ≡ k .kind) × Within bits q → next ≡ afterAnswer st bits q → Made st bits q next
     go (AskOpen h key) (inl t) w e = opens (t .1) h key refl (w .1) e
@@ -136,10 +136,10 @@ heard-made st x bits msg room next reply k = go (k .q) (turn-open (st .opened) (
     go (AskBits s l) (inr t) w e = counts (t .1) (λ d. t .0 (sym (w .0) ∙ d)) e
 
 -- every state from a call of the holder is sound
-pub holder-sound : (st : Holder) (x : List ℕ) (bits : ℕ) (msg : List ℕ) (room : ℕ) (next : Holder) (reply : List ℕ) → holderCall st x bits msg room ≡ replies next reply → OpenedIs next
-holder-sound st x bits msg room next reply e =
-    let k = heard-call st x bits msg room next reply e in
-    go (k .few) (k .left) (k .sound-before) (heard-made st x bits msg room next reply k)
+pub holder-sound : (st : Holder) (x : List ℕ) (bits : ℕ) (msg : List ℕ) (capacity : ℕ) (next : Holder) (reply : List ℕ) → holderCall st x bits msg capacity ≡ replies next reply → OpenedIs next
+holder-sound st x bits msg capacity next reply e =
+    let k = heard-call st x bits msg capacity next reply e in
+    go (k .few) (k .left) (k .sound-before) (heard-made st x bits msg capacity next reply k)
   where
     go : {q : Question} → bits ≤ maxBits → st .answers < mostAnswers → holderSound st ≡ true → Made st bits q next → OpenedIs next
     go f l s (opens o h key d w e) = rw e record { opened = refl; bits = f; h-least = w .h-least; h-most = w .h-most; key-least = w .key-least; answers-least = omega arith; answers-most = omega arith }

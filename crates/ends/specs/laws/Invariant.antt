@@ -21,10 +21,10 @@ use Rattle.ends.specs.laws.Counts.{Nest, begin-copy, begin-nest, begin-n
 use Rattle.ends.specs.Claims.{isWait, rowSum, total}
 use Rattle.strings.specs.SettingLimits.{Limits}
 use Rattle.ends.specs.laws.Right.{Good, begin-ok, begin-span, one, part-length, settled-right, work-ok}
-use Rattle.ends.specs.Runs.{Honest, Run, advance, copies, copyOf, judge, opening, question, run, sizeOf, told, whole, working, full}
+use Rattle.ends.specs.Runs.{Honest, Run, advance, copies, copyOf, judge, opening, question, run, sizeOf, honestAnswer, whole, working, full}
 use Rattle.ends.specs.laws.SegmentLaws.{Chain, ask-waits, chain-end, found, rowSum-append, step-chain, step-copies, step-falls, step-rows}
 use Rattle.ends.specs.Segments.{Segment, ask, asks, begin, dropped, effect, hashOf, newRows, rowsOf, settled, step, theSize, waiting, waits, work}
-use Rattle.ends.specs.laws.Shape.{Inside, Proper, Shape, asks-inside, begin-shape, proper-bits, proper-full, proper-size, sizes, work-shape}
+use Rattle.ends.specs.laws.Shape.{Inside, ProperFor, Shape, asks-inside, begin-shape, proper-bits, proper-full, proper-size, sizes, work-shape}
 use Rattle.ends.specs.declared.How.the-variants.{ByBits}
 use Rattle.ends.specs.declared.Row.{Row}
 use Rattle.strings.specs.declared.settings.Settings.{Settings}
@@ -88,10 +88,10 @@ module _ (S : Settings) (Y : List Bool) where
         )
 
     -- the answer to q, at the piece that q asks for
-    pub work-chain : (n : ℕ) (q : Question) (a : Answer) → Proper S q a → (x p : ℕ) (ys : List Bool) (t : Stage) → Shape S n x (waiting p ys t) → asks S x p t ≡ q → Chain (Shape S n) x (work S a p ys t) (x + p)
+    pub work-chain : (n : ℕ) (q : Question) (a : Answer) → ProperFor S q a → (x p : ℕ) (ys : List Bool) (t : Stage) → Shape S n x (waiting p ys t) → asks S x p t ≡ q → Chain (Shape S n) x (work S a p ys t) (x + p)
     work-chain n q a o x p ys t g e = work-shape S L n x p ys t a g (rw e o)
 
-    step-held : (n : ℕ) (segs : List Segment) (rows : List Row) (q : Question) (a : Answer) → ask S 0 segs ≡ some q → Proper S q a → Held n segs rows
+    step-held : (n : ℕ) (segs : List Segment) (rows : List Row) (q : Question) (a : Answer) → ask S 0 segs ≡ some q → ProperFor S q a → Held n segs rows
         → Held n (step S a segs) (rows ++ newRows S a 0 segs)
     step-held n segs rows q a k o h =
         let nest = step-nest S L a n 0 n segs (h .tiles) (h .nest) (h .few) in
@@ -127,7 +127,7 @@ module _ (S : Settings) (Y : List Bool) where
         go true false e f = (h, p, omega arith, λ g. absurd (true-false (sym g ∙ f)))
         go false u e f = (h, p, omega arith, λ g. ltb-false (S .ceiling) c e)
 
-    whole-ok : (asked n c : ℕ) (segs : List Segment) (rows : List Row) (a : Answer) → Proper S (AskBits 0 n) a → Inv asked (whole n c segs rows) → Inv (asked + 1) (advance S Y (whole n c segs rows) a)
+    whole-ok : (asked n c : ℕ) (segs : List Segment) (rows : List Row) (a : Answer) → ProperFor S (AskBits 0 n) a → Inv asked (whole n c segs rows) → Inv (asked + 1) (advance S Y (whole n c segs rows) a)
     whole-ok asked n c segs rows a o i =
         let l = proper-bits S 0 n a o in
         let sb = proper-full S 0 n a o in
@@ -159,7 +159,7 @@ module _ (S : Settings) (Y : List Bool) where
         let e : AskBits 0 n ≡ q = cc in rw (← e) (omega arith, omega arith)
 
     -- a proper answer keeps it
-    pub advance-ok : (asked : ℕ) (s : Run) (q : Question) (a : Answer) → question S s ≡ some q → Proper S q a → Inv asked s → Inv (asked + 1) (advance S Y s a)
+    pub advance-ok : (asked : ℕ) (s : Run) (q : Question) (a : Answer) → question S s ≡ some q → ProperFor S q a → Inv asked s → Inv (asked + 1) (advance S Y s a)
     advance-ok asked opening q a k o h =
         let e : AskOpen (S .h) (S .key) ≡ q = cc in
         rw h (start-ok (theSize a) (proper-size S (S .h) (S .key) a (rw (← e) at o)))
@@ -184,13 +184,13 @@ module _ (S : Settings) (X Y : List Bool) (L : Limits S) (nX : length X ≤ maxB
   unfolding judge
   judge-true n c segs rows h = by-test (Truth S X) (ltb (S .ceiling) c && waits segs) {a = whole n c segs rows} {b = working n c segs rows} (λ e. h) (λ e. h)
 
-  advance-true : (s : Run) (q : Question) → question S s ≡ some q → Truth S X s → Truth S X (advance S Y s (told S X q))
+  advance-true : (s : Run) (q : Question) → question S s ≡ some q → Truth S X s → Truth S X (advance S Y s (honestAnswer S X q))
   advance-true opening q k h =
       let e : AskOpen (S .h) (S .key) ≡ q = cc in
       let b = begin-span S L (length X) Y in
       rw (← e) (refl, (begin-ok S L X 0 (length X) Y (omega arith), omega arith))
   advance-true (working n c segs rows) q k h =
-      let a = told S X q in
+      let a = honestAnswer S X q in
       judge-true n (c + sizeOf a) (step S a segs) (rows ++ newRows S a 0 segs)
       (h .0, step-chain S a (Good S X) q (λ x p ys t g e. rw (← e) (work-ok S L X x p ys t g)) 0 n segs (h .1) k)
   advance-true (whole n c segs rows) q k h =
@@ -200,7 +200,7 @@ module _ (S : Settings) (X Y : List Bool) (L : Limits S) (nX : length X ≤ maxB
       rw (← e) (h .0, rw (zero-add n) at (one S L X 0 n ByBits Y (part X 0 n) (omega arith) l (settled-right S (part X 0 n) ByBits Y (part X 0 n) refl refl)))
 
   -- the holder's answers are proper
-  answer-proper : (n : ℕ) (q : Question) → Inside n q → (n ≡ length X) ⊎ (q ≡ AskOpen (S .h) (S .key)) → Proper S q (told S X q)
+  answer-proper : (n : ℕ) (q : Question) → Inside n q → (n ≡ length X) ⊎ (q ≡ AskOpen (S .h) (S .key)) → ProperFor S q (honestAnswer S X q)
   unfolding hashOf
   answer-proper n (AskOpen h key) i e = record { of-kind = refl; values = nX }
   answer-proper n (AskHash x p) i e = record { of-kind = refl; values = hash-most S (part X x p) }
@@ -214,7 +214,7 @@ module _ (S : Settings) (X Y : List Bool) (L : Limits S) (nX : length X ≤ maxB
   true-size (working n c segs rows) q h k = inl (h .0)
   true-size (whole n c segs rows) q h k = inl (h .0)
 
-  pub proper-now : (asked : ℕ) (s : Run) (q : Question) → Inv S Y asked s → Truth S X s → question S s ≡ some q → Proper S q (told S X q)
+  pub proper-now : (asked : ℕ) (s : Run) (q : Question) → Inv S Y asked s → Truth S X s → question S s ≡ some q → ProperFor S q (honestAnswer S X q)
   proper-now asked s q i h k = answer-proper (sizeOfRun s) q (question-inside S Y L asked s q i k) (true-size s q h k)
 
   pub run-ok : (l : List Answer) → Honest S X Y l → Inv S Y (length l) (run S Y l) × Truth S X (run S Y l)
@@ -224,6 +224,6 @@ module _ (S : Settings) (X Y : List Bool) (L : Limits S) (nX : length X ≤ maxB
       let q = h .1 .0 in
       let k = h .1 .1 in
       rw (h .1 .2) (
-        rw (← add-one) (advance-ok S Y L (length l) (run S Y l) q (told S X q) k (proper-now (length l) (run S Y l) q (r .0) (r .1) k) (r .0)),
+        rw (← add-one) (advance-ok S Y L (length l) (run S Y l) q (honestAnswer S X q) k (proper-now (length l) (run S Y l) q (r .0) (r .1) k) (r .0)),
         advance-true (run S Y l) q k (r .1),
       )

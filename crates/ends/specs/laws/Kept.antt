@@ -14,7 +14,7 @@ use lib.Dec.{ltb}
 use borrow.Author.Tests.{le-leb, lt-leb, lt-ltb, le-ltb}
 use Rattle.messages.specs.Answers.{Answer}
 use Rattle.ends.specs.Anchors.{part}
-use Rattle.ends.specs.Claims.{isWait, Settled, rowSum, total, At, Finished, Slip, covers}
+use Rattle.ends.specs.Claims.{isWait, Settled, rowSum, total, At, Finished, Collision, covers}
 use Rattle.ends.specs.laws.Counts.{pot, rowCost}
 use Rattle.ends.specs.laws.Invariant.{Held, Inv, Truth}
 use Rattle.strings.specs.SettingLimits.{Limits}
@@ -52,7 +52,7 @@ string-length P x e (settled w ys b ∷ r) h =
     let i = string-length P (x + length b) e r (h .1) in let j = length-append b (string r) in omega arith
 
 module _ (S : Settings) (X : List Bool) where
-  deeper : (x : ℕ) (u : Segment) (r : List Segment) (i : ℕ) → Slip S X (x + span u) r i → Slip S X x (u ∷ r) i
+  deeper : (x : ℕ) (u : Segment) (r : List Segment) (i : ℕ) → Collision S X (x + span u) r i → Collision S X x (u ∷ r) i
   deeper x u r i s = record {
     start = s .start;
     how = s .how;
@@ -66,11 +66,11 @@ module _ (S : Settings) (X : List Bool) where
   }
 
   pub bit-right : (x e : ℕ) (segs : List Segment) → Chain (Good S X) x segs e → waits segs ≡ false → (j : ℕ) → x + j < e
-      → (getD (string segs) j false ≡ getD X (x + j) false) ⊎ Slip S X x segs (x + j)
+      → (getD (string segs) j false ≡ getD X (x + j) false) ⊎ Collision S X x segs (x + j)
   bit-right x e [] h f j l = absurd (omega (arith, h))
   bit-right x e (dropped ys ∷ r) h f j l = go (bit-right x e r (rw add-zero at (h .1)) f j l)
     where
-      go : (getD (string r) j false ≡ getD X (x + j) false) ⊎ Slip S X x r (x + j) → (getD (string r) j false ≡ getD X (x + j) false) ⊎ Slip S X x (dropped ys ∷ r) (x + j)
+      go : (getD (string r) j false ≡ getD X (x + j) false) ⊎ Collision S X x r (x + j) → (getD (string r) j false ≡ getD X (x + j) false) ⊎ Collision S X x (dropped ys ∷ r) (x + j)
       go (inl q) = inl q
       go (inr s) = inr (deeper x (dropped ys) r (x + j) (rw add-zero s))
   bit-right x e (waiting p ys t ∷ r) h f j l = absurd (true-false f)
@@ -80,11 +80,11 @@ module _ (S : Settings) (X : List Bool) where
       same-bit q k = ap (λ (z : List Bool). getD z j false) q ∙ getD-take (length b) (drop x X) j false k ∙ getD-drop x X j false
 
       go : Dec (j < length b)
-          → (x + length b + (j - length b) < e → (getD (string r) (j - length b) false ≡ getD X (x + length b + (j - length b)) false) ⊎ Slip S X (x + length b) r (x + length b + (j - length b)))
-          → (getD (b ++ string r) j false ≡ getD X (x + j) false) ⊎ Slip S X x (settled w ys b ∷ r) (x + j)
+          → (x + length b + (j - length b) < e → (getD (string r) (j - length b) false ≡ getD X (x + length b + (j - length b)) false) ⊎ Collision S X (x + length b) r (x + length b + (j - length b)))
+          → (getD (b ++ string r) j false ≡ getD X (x + j) false) ⊎ Collision S X x (settled w ys b ∷ r) (x + j)
       go (yes k) ih = pick (bool-eq (getD b j false) (getD X (x + j) false))
         where
-          pick : (getD b j false ≡ getD X (x + j) false) ⊎ (getD b j false ≡ getD X (x + j) false → ⊥) → (getD (b ++ string r) j false ≡ getD X (x + j) false) ⊎ Slip S X x (settled w ys b ∷ r) (x + j)
+          pick : (getD b j false ≡ getD X (x + j) false) ⊎ (getD b j false ≡ getD X (x + j) false → ⊥) → (getD (b ++ string r) j false ≡ getD X (x + j) false) ⊎ Collision S X x (settled w ys b ∷ r) (x + j)
           pick (inl q) = inl (List·getD-append b (string r) false j k ∙ q)
           pick (inr q) = inr record {
             start = x;
@@ -105,8 +105,8 @@ module _ (S : Settings) (X : List Bool) where
           v : x + length b + (j - length b) ≡ x + j
           v = omega arith
 
-          pick : (getD (string r) (j - length b) false ≡ getD X (x + length b + (j - length b)) false) ⊎ Slip S X (x + length b) r (x + length b + (j - length b))
-              → (getD (b ++ string r) j false ≡ getD X (x + j) false) ⊎ Slip S X x (settled w ys b ∷ r) (x + j)
+          pick : (getD (string r) (j - length b) false ≡ getD X (x + length b + (j - length b)) false) ⊎ Collision S X (x + length b) r (x + length b + (j - length b))
+              → (getD (b ++ string r) j false ≡ getD X (x + j) false) ⊎ Collision S X x (settled w ys b ∷ r) (x + j)
           pick (inl q) = inl (ap (λ (n : ℕ). getD (b ++ string r) n false) u ∙ getD-append-add b (string r) (j - length b) false ∙ q ∙ ap (λ (n : ℕ). getD X n false) v)
           pick (inr s) = inr (deeper x (settled w ys b) r (x + j) (rw v at s))
 
@@ -154,10 +154,10 @@ none-waits S x (settled m ys b ∷ r) k = none-waits S (x + length b) r k
 none-waits S x (waiting p ys t ∷ r) k = let z : _≡_ {A = ℕ} 0 1 = cc in absurd (omega arith)
 
 -- the bytes of the answers but the first, which is the opening's
-abbrev pub bytesOf : List Answer → ℕ
-bytesOf [] = 0
-bytesOf (a ∷ []) = 0
-bytesOf (a ∷ b ∷ l) = sizeOf a + bytesOf (b ∷ l)
+abbrev pub answerLengths : List Answer → ℕ
+answerLengths [] = 0
+answerLengths (a ∷ []) = 0
+answerLengths (a ∷ b ∷ l) = sizeOf a + answerLengths (b ∷ l)
 
 -- ---- what every run with the holder's answers keeps
 -- after so many answers, in the run s
@@ -192,14 +192,14 @@ module _ (S : Settings) (Y : List Bool) where
   counted (working n c segs rows) a h = let e = judge-count n (c + sizeOf a) (step S a segs) (rows ++ newRows S a 0 segs) .1 in omega arith
   counted (whole n c segs rows) a h = omega arith
 
-  pub count-is : (l : List Answer) → countOf (run S Y l) ≡ bytesOf l
+  pub count-is : (l : List Answer) → countOf (run S Y l) ≡ answerLengths l
   count-is [] = refl
   count-is (a ∷ []) = refl
   count-is (a ∷ b ∷ l) = counted (run S Y (b ∷ l)) a (opened (run S Y l) b) ∙ ap (λ (n : ℕ). sizeOf a + n) (count-is (b ∷ l))
 
 module _ (S : Settings) (X Y : List Bool) (L : Limits S) (nX : length X ≤ maxBits) where
   finished : (n : ℕ) (segs : List Segment) (rows : List Row) → Held S Y n segs rows → (n ≡ length X) × Chain (Good S X) 0 segs n → ask S 0 segs ≡ none
-      → (length (string segs) ≡ length X) × ((i : ℕ) → i < length X → (getD (string segs) i false ≡ getD X i false) ⊎ Slip S X 0 segs i) × ((i : ℕ) → i < length X → rowSum (covers i) rows ≡ 1)
+      → (length (string segs) ≡ length X) × ((i : ℕ) → i < length X → (getD (string segs) i false ≡ getD X i false) ⊎ Collision S X 0 segs i) × ((i : ℕ) → i < length X → rowSum (covers i) rows ≡ 1)
   finished n segs rows h t k =
       let e = t .0 in
       let w = none-waits S 0 segs k in (

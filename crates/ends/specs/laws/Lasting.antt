@@ -17,7 +17,7 @@ use Rattle.ends.specs.Anchors.{part}
 use Rattle.ends.specs.laws.Invariant.{Inv, Truth, proper-now, run-ok, work-chain}
 use Rattle.ends.specs.Claims.{At, total}
 use Rattle.strings.specs.SettingLimits.{Limits}
-use Rattle.ends.specs.Runs.{Honest, Run, advance, judge, opening, piecesOf, question, run, sizeOf, string, told, whole, working}
+use Rattle.ends.specs.Runs.{Honest, Run, advance, judge, opening, piecesOf, question, run, sizeOf, string, honestAnswer, whole, working}
 use Rattle.ends.specs.laws.SegmentLaws.{Chain, chain-end}
 use Rattle.ends.specs.Segments.{Segment, ask, asks, dropped, newRows, settled, span, step, waiting, waits, work}
 use Rattle.ends.specs.laws.Shape.{Shape}
@@ -53,10 +53,10 @@ module _ (S : Settings) (X Y : List Bool) (L : Limits S) (nX : length X ≤ maxB
   judge-pieces n c segs rows = by-test (λ (s : Run). piecesOf s ≡ segs) (ltb (S .ceiling) c && waits segs) {a = whole n c segs rows} {b = working n c segs rows} (λ e. refl) (λ e. refl)
 
   lasts : (asked : ℕ) (s : Run) (q : Question) → Inv S Y asked s → Truth S X s → question S s ≡ some q → (x : ℕ) (w : How) (ys b : List Bool) → At 0 (piecesOf s) x (settled w ys b)
-      → At 0 (piecesOf (advance S Y s (told S X q))) x (settled w ys b) ⊎ (string (piecesOf (advance S Y s (told S X q))) ≡ X)
+      → At 0 (piecesOf (advance S Y s (honestAnswer S X q))) x (settled w ys b) ⊎ (string (piecesOf (advance S Y s (honestAnswer S X q))) ≡ X)
   lasts asked opening q i t k x w ys b c = absurd c
   lasts asked (working n c₀ segs rows) q i t k x w ys b c =
-      let a = told S X q in
+      let a = honestAnswer S X q in
       let o = proper-now S X Y L nX asked (working n c₀ segs rows) q i t k in
       let m = step-at S a (Shape S n) q (λ x p ys t g e. let z = chain-end (Shape S n) x (x + p) (work S a p ys t) (work-chain S Y L n q a o x p ys t g e) in omega arith) 0 n segs (i .0 .tiles) k x w ys b c in
       inl (rw (judge-pieces n (c₀ + sizeOf a) (step S a segs) (rows ++ newRows S a 0 segs)) m)

@@ -13,7 +13,7 @@ use Rattle.codes.specs.laws.RepairLaws.{deletion-length, put-in-found, put-in-l
 use Rattle.codes.specs.Syndrome.{syndrome}
 use Rattle.ends.specs.Anchors.{part, place}
 use Rattle.strings.specs.SettingLimits.{Limits}
-use Rattle.ends.specs.Runs.{told}
+use Rattle.ends.specs.Runs.{honestAnswer}
 use Rattle.ends.specs.laws.SegmentLaws.{Chain}
 use Rattle.ends.specs.Segments.{Effect, Segment, asks, begin, dropped, effect, firstStage, hashOf, laterStage, made, placed, retry, settled, span, tooSmall, trial, trialOf, waiting, work, afterAnchor, offset}
 use Rattle.ends.specs.declared.How.{How}
@@ -49,7 +49,7 @@ near-added x y e (oneAdded d) = d
 -- an anchor at offset s of a piece of length p
 pub record Fit (S : Settings) (p s : ℕ) : Type 0 where
   pub big : 64 ≤ p
-  pub room : s + S .m ≤ p
+  pub inside : s + S .m ≤ p
   pub left : 8 * s ≤ 5 * p
   pub right : 8 * (p - (s + S .m)) ≤ 5 * p
 
@@ -80,9 +80,9 @@ module _ (S : Settings) (L : Limits S) where
   long-is p q e = ltb-false p (4 * (S .m + S .h)) (or-false (ltb p (4 * (S .m + S .h))) (ltb q (S .m)) e .0)
 
   pub offset-fits : (p : ℕ) (i : Attempt) → Long S p → Fit S p (offset (S .m) p i)
-  offset-fits p First k = let a = L .m-least in let b = L .h-least in record { big = omega arith; room = omega arith; left = omega arith; right = omega arith }
-  offset-fits p Second k = let a = L .m-least in let b = L .h-least in record { big = omega arith; room = omega arith; left = omega arith; right = omega arith }
-  offset-fits p Third k = let a = L .m-least in let b = L .h-least in record { big = omega arith; room = omega arith; left = omega arith; right = omega arith }
+  offset-fits p First k = let a = L .m-least in let b = L .h-least in record { big = omega arith; inside = omega arith; left = omega arith; right = omega arith }
+  offset-fits p Second k = let a = L .m-least in let b = L .h-least in record { big = omega arith; inside = omega arith; left = omega arith; right = omega arith }
+  offset-fits p Third k = let a = L .m-least in let b = L .h-least in record { big = omega arith; inside = omega arith; left = omega arith; right = omega arith }
 
   pub after-ok : (p q : ℕ) (i : Attempt) → Long S p → StageOk S p q (afterAnchor i)
   after-ok p q First k = k
@@ -146,7 +146,7 @@ module _ (S : Settings) (L : Limits S) where
     placed-ok x p s ys u (some r) h o f k =
         let m = S .m in
         let b = part X (x + s) m in
-        let q = f .room in
+        let q = f .inside in
         let e : length b ≡ m = part-length (x + s) m (omega arith) in
         let c = begin-span s (take r ys) in
         let v = begin-span (p - (s + m)) (drop (r + m) ys) in (
@@ -161,7 +161,7 @@ module _ (S : Settings) (L : Limits S) where
         )
 
     pub work-ok : (x p : ℕ) (ys : List Bool) (t : Stage) → Good S X x (waiting p ys t)
-        → Chain (Good S X) x (work S (told S X (asks S x p t)) p ys t) (x + p)
+        → Chain (Good S X) x (work S (honestAnswer S X (asks S x p t)) p ys t) (x + p)
     unfolding effect hashOf
     work-ok x p ys Hashing h =
         let l = part-length x p (h .0) in let e = h .1 in

@@ -12,7 +12,7 @@ use Rattle.messages.specs.declared.Question.{Question}
 use Rattle.strings.specs.Results.{Result, value}
 use Rattle.ends.specs.laws.CallLists.{Known, claimed, in-range, known, takes-it, x-few}
 use Rattle.ends.specs.RebuilderCall.{Taken, writtenQuestion}
-use Rattle.ends.specs.Runs.{question, run, told}
+use Rattle.ends.specs.Runs.{question, run, honestAnswer}
 use Rattle.ends.specs.Worlds.{Call, Fair, FairCall, Lent, Supposed, World, afterTaken, bitsOfX, bitsOfY, firstWorld, stepWorld, takenIn, toRebuilder, waitingIn, world, worldAfter}
 use Rattle.ends.specs.declared.Rebuilder.{Rebuilder}
 use Rattle.ends.specs.declared.Row.{Row}
@@ -38,8 +38,8 @@ module _ (c : Lent) (r₀ : Rebuilder) (q₀ : List ℕ) (bs₀ : List ℕ) (sh�
           let rd : readQuestion w (c .xbits) ≡ value q =
           ap (λ (u : List ℕ). readQuestion u (c .xbits)) (k .1 .asks ∙ ap writtenQuestion e)
           ∙ question-reads q (c .xbits) (x-few c r₀ q₀ bs₀ sh₀ sup) (in-range c r₀ q₀ bs₀ sh₀ sup (k .0) (k .1 .honest) q e) in
-          goes (answerBytes (told (c .settings) (bitsOfX c) q)) (λ s q′ i. (q, rd, refl))
-          (ap (λ (t : Result Taken). takenIn (afterTaken (world H r bs sh w hs ts) (answerBytes (told (c .settings) (bitsOfX c) q)) t)) (takes-it c r₀ q₀ bs₀ sh₀ sup r bs sh w (k .0) (k .1) q e))
+          goes (answerBytes (honestAnswer (c .settings) (bitsOfX c) q)) (λ s q′ i. (q, rd, refl))
+          (ap (λ (t : Result Taken). takenIn (afterTaken (world H r bs sh w hs ts) (answerBytes (honestAnswer (c .settings) (bitsOfX c) q)) t)) (takes-it c r₀ q₀ bs₀ sh₀ sup r bs sh w (k .0) (k .1) q e))
 
   few-taken : (w : World) → Known c r₀ q₀ bs₀ sh₀ sup w → takenIn w ≤ most
   few-taken (world H r bs sh w hs ts) k = claimed c r₀ q₀ bs₀ sh₀ sup (world H r bs sh w hs ts) k .1 .questions

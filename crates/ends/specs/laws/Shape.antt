@@ -10,7 +10,7 @@ use lib.Dec.{eqb}
 use Rattle.codes.specs.Repair.{putIn, takeOut}
 use Rattle.codes.specs.laws.RepairLaws.{put-in-length, take-out-length}
 use Rattle.messages.specs.Answers.{Answer, bitsAnswer, hashAnswer, sizeAnswer, syndromeAnswer}
-use Rattle.messages.specs.laws.AnswerLaws.{Proper as ProperOf, Values, answer-most, answerKind, bits-answer-size}
+use Rattle.messages.specs.laws.AnswerLaws.{Proper, Values, answer-most, answerKind, bits-answer-size}
 use Rattle.messages.specs.Questions.{questionKind}
 use Rattle.messages.specs.declared.Kind.the-variants.{Bits}
 use Rattle.messages.specs.declared.Question.{Question}
@@ -37,8 +37,8 @@ Shape S n x (waiting p ys t) = (x + p ≤ n) × StageOk S p (length ys) t × (0 
 Shape S n x (settled w ys b) = x + length b ≤ n
 
 -- the answer is of the kind asked for, and in range: what a reader lets through
-abbrev pub Proper : Settings → Question → Answer → Type 0
-Proper S q a = ProperOf (questionKind q) (questionLength q) (S .h) a
+abbrev pub ProperFor : Settings → Question → Answer → Type 0
+ProperFor S q a = Proper (questionKind q) (questionLength q) (S .h) a
 
 -- an answer of bits is made of them
 is-bits : (a : Answer) → answerKind a ≡ Bits → a ≡ bitsAnswer (theBits a)
@@ -52,16 +52,16 @@ unfolding sizeOf
 size-bits l = bits-answer-size l
 
 -- the values of a proper answer to each kind of question that is looked into
-pub proper-size : (S : Settings) (h key : ℕ) (a : Answer) → Proper S (AskOpen h key) a → theSize a ≤ maxBits
+pub proper-size : (S : Settings) (h key : ℕ) (a : Answer) → ProperFor S (AskOpen h key) a → theSize a ≤ maxBits
 proper-size S h key (sizeAnswer n) p = p .values
 proper-size S h key (hashAnswer v) p = omega arith
 proper-size S h key (syndromeAnswer s v) p = omega arith
 proper-size S h key (bitsAnswer l) p = omega arith
 
-pub proper-bits : (S : Settings) (x p : ℕ) (a : Answer) → Proper S (AskBits x p) a → length (theBits a) ≡ p
+pub proper-bits : (S : Settings) (x p : ℕ) (a : Answer) → ProperFor S (AskBits x p) a → length (theBits a) ≡ p
 proper-bits S x p a h = subst (Values p (S .h)) (is-bits a (h .of-kind)) (h .values) .0
 
-pub proper-full : (S : Settings) (x p : ℕ) (a : Answer) → Proper S (AskBits x p) a → sizeOf a ≡ full p
+pub proper-full : (S : Settings) (x p : ℕ) (a : Answer) → ProperFor S (AskBits x p) a → sizeOf a ≡ full p
 proper-full S x p a h = ap sizeOf (is-bits a (h .of-kind)) ∙ size-bits (theBits a) ∙ ap full (proper-bits S x p a h)
 
 -- a range of n bits
@@ -78,7 +78,7 @@ inside-length n (AskSyndrome x p) i = let j = i .1 in omega arith
 inside-length n (AskBits x p) i = let j = i .1 in omega arith
 
 -- a proper answer's bytes
-pub sizes : (S : Settings) (n : ℕ) → n ≤ maxBits → (q : Question) (a : Answer) → Inside n q → Proper S q a → sizeOf a ≤ max 9 (full n)
+pub sizes : (S : Settings) (n : ℕ) → n ≤ maxBits → (q : Question) (a : Answer) → Inside n q → ProperFor S q a → sizeOf a ≤ max 9 (full n)
 unfolding sizeOf
 sizes S n h q a i p = let l = inside-length n q i in let e = answer-most (questionLength q) (S .h) a (omega arith) (p .values) in omega arith
 
@@ -106,14 +106,14 @@ module _ (S : Settings) (L : Limits S) (n : ℕ) where
   placed-shape : (x p s : ℕ) (ys b : List Bool) (u : Stage) (o : Option ℕ) → x + p ≤ n → 0 < p → Fit S p s → StageOk S p (length ys) u → length b ≡ S .m → Fine x p ys (placed s b u o)
   placed-shape x p s ys b u none h o f k e = ((h, k, o), refl)
   placed-shape x p s ys b u (some r) h o f k e =
-      let q = f .room in
+      let q = f .inside in
       let c = begin-span S L s (take r ys) in
       let v = begin-span S L (p - (s + S .m)) (drop (r + S .m) ys) in (
         begin-shape x s (take r ys) (omega arith),
         (omega arith, (begin-shape (x + span (begin S s (take r ys)) + length b) (p - (s + S .m)) (drop (r + S .m) ys) (omega arith), omega arith)),
       )
 
-  pub work-shape : (x p : ℕ) (ys : List Bool) (t : Stage) (a : Answer) → Shape S n x (waiting p ys t) → Proper S (asks S x p t) a → Chain (Shape S n) x (work S a p ys t) (x + p)
+  pub work-shape : (x p : ℕ) (ys : List Bool) (t : Stage) (a : Answer) → Shape S n x (waiting p ys t) → ProperFor S (asks S x p t) a → Chain (Shape S n) x (work S a p ys t) (x + p)
   unfolding effect
   work-shape x p ys Hashing a h k = trial-shape x p (theHash a) ByHash ys ys (h .0) (h .2) (h .1)
   work-shape x p ys PuttingIn a h k = let d = h .1 in trialOf-shape x p (theHash a) ByPutIn ys (putIn (theSyndrome a) ys) (h .0) (h .2) (λ b e. let l = put-in-length (theSyndrome a) ys b e in omega arith)
@@ -128,4 +128,4 @@ module _ (S : Settings) (L : Limits S) (n : ℕ) where
   asks-inside x p ys PuttingIn g = (g .2, g .0)
   asks-inside x p ys TakingOut g = (g .2, g .0)
   asks-inside x p ys AllBits g = (g .2, g .0)
-  asks-inside x p ys (Anchor i) g = let r = offset-fits S L p i (g .1) .room in let a = g .0 in let b = L .m-least in (omega arith, omega arith)
+  asks-inside x p ys (Anchor i) g = let r = offset-fits S L p i (g .1) .inside in let a = g .0 in let b = L .m-least in (omega arith, omega arith)

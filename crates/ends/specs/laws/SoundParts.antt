@@ -199,7 +199,7 @@ ask-inside st L k = go (st .stage) (fits-stage (st .settings) L (top st .p) (top
     go Hashing o = (k .some, k .inX)
     go PuttingIn o = (k .some, k .inX)
     go TakingOut o = (k .some, k .inX)
-    go (Anchor i) o = let r = offset-fits (st .settings) L (top st .p) i o .room in let a = k .inX in let b = L .m-least in (omega arith, omega arith)
+    go (Anchor i) o = let r = offset-fits (st .settings) L (top st .p) i o .inside in let a = k .inX in let b = L .m-least in (omega arith, omega arith)
     go AllBits o = (k .some, k .inX)
 
 -- ---- a state's phase, and the question that it then asks

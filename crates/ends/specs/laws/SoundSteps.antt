@@ -20,7 +20,7 @@ use Rattle.ends.specs.RebuilderCall.{counting, effectStep, freshRebuilde
 use Rattle.ends.specs.laws.Right.{StageOk}
 use Rattle.ends.specs.Runs.{blank, sizeOf, full}
 use Rattle.ends.specs.Segments.{Effect, asks, effect, settles, splits, stays, theBits, theSize, nextStage, firstStage, laterStage, tooSmall}
-use Rattle.ends.specs.laws.Shape.{Inside, Proper, proper-full, proper-size, sizes}
+use Rattle.ends.specs.laws.Shape.{Inside, ProperFor, proper-full, proper-size, sizes}
 use Rattle.ends.specs.laws.SoundLaws.{Ordered, first-fits, fits-stage, next-fits, ordered-from}
 use Rattle.ends.specs.States.{held, leftPiece, noPiece, planned, popped, pushed, restaged, retried, rightPiece, splitAt, top}
 use Rattle.ends.specs.laws.Steps.{step-opening, step-pieces, step-whole}
@@ -80,7 +80,7 @@ module _ (S : Settings) (L : Limits S) where
   effect-leaves n e pc l ys t (stays u) q o sn ld = record { order = o; rows = omega arith; asks = omega arith; few = omega arith }
   effect-leaves n e pc l ys t (splits s r b) q o sn ld =
       let f = sn .0 in
-      let fl = f .left in let fr = f .right in let room = f .room in
+      let fl = f .left in let fr = f .right in let inside = f .inside in
       let right : Piece = rightPiece (S .m) pc s r in
       let left : Piece = leftPiece pc s r in
       let o3 = o .3 in let o4 = o .4 in let o5 = o .5 in
@@ -116,7 +116,7 @@ pub record Tally (s : Rebuilder) (size rows : ℕ) : Type 0 where
   pub framed : Framed s
   pub fits : topFits s ≡ true
   pub order : Ordered (s .n) (s .ybits) 0 0 (held (s .waiting) (s .pieces))
-  pub room : s .rows + rows + rowsLeft (s .settings .m) (held (s .waiting) (s .pieces)) ≤ 2 * (s .n / s .settings .m) + 1
+  pub rows-fit : s .rows + rows + rowsLeft (s .settings .m) (held (s .waiting) (s .pieces)) ≤ 2 * (s .n / s .settings .m) + 1
   pub asks : s .answered + 1 + asksLeft (s .settings .m) (held (s .waiting) (s .pieces)) ≤ 9 * (s .n / s .settings .m) + 6 + asksBefore (s .stage)
   pub counted : s .counted ≤ s .settings .ceiling
   pub short : size ≤ max 9 (full (s .n))
@@ -130,7 +130,7 @@ module _ (s : Rebuilder) (size rows : ℕ) (k : Tally s size rows) where
 
   over-stack : (ph : Phase) → StackIs (over ph)
   unfolding topFits top
-  over-stack ph = record { fits = k .fits; order = k .order; rows = k .room }
+  over-stack ph = record { fits = k .fits; order = k .order; rows = k .rows-fit }
 
   over-pieces : s .counted + size ≤ cond (eqb (s .waiting) 0) (s .settings .ceiling + full (s .n) + max 9 (full (s .n))) (s .settings .ceiling) → sound (over AtPieces) ≡ true
   over-pieces h =
@@ -246,7 +246,7 @@ module _ (st : Rebuilder) (arr : length (st .pieces) ≡ 32) (f : Framed st) (k 
         framed = after-framed e;
         fits = after-fits e;
         order = rw (m .n, m .ybits, m .stack) (lf .order);
-        room = rw (m .rows, m .settings, m .n, m .stack) (omega arith);
+        rows-fit = rw (m .rows, m .settings, m .n, m .stack) (omega arith);
         asks = rw (m .answered, m .settings, m .n, m .stack) (omega arith);
         counted = rw (m .counted, m .settings) kc;
         short = rw (m .n) short;
@@ -334,7 +334,7 @@ piece-sound st y a size arr f k pos short =
     let m = moved-effect (st .settings) st refl arr pos (ti .few) e in
     tallied-effect st size e (tallied-sound (effectState st e) size (length (rowsAfter S (top st) e)) ta) (m .array)
 
-pub step-sound : (st : Rebuilder) (y : List ℕ) (q : Question) (a : Answer) (size : ℕ) → length (st .pieces) ≡ 32 → sound st ≡ true → planned st ≡ some q → Proper (st .settings) q a → size ≡ sizeOf a
+pub step-sound : (st : Rebuilder) (y : List ℕ) (q : Question) (a : Answer) (size : ℕ) → length (st .pieces) ≡ 32 → sound st ≡ true → planned st ≡ some q → ProperFor (st .settings) q a → size ≡ sizeOf a
     → Sound′ (stepOf st y size a .state)
 step-sound st y q a size arr s k o sz =
     let f = sound-is st s in

@@ -16,7 +16,7 @@ use Rattle.ends.specs.Runs.{blank, string}
 use Rattle.ends.specs.Segments.{Effect, row, settles, splits, stays, nextStage, firstStage}
 use Rattle.ends.specs.laws.StackLaws.{IsNext, held-any, restage-held}
 use Rattle.ends.specs.States.{held, leftPiece, noPiece, popped, pushed, restaged, retried, rightPiece, splitAt, top}
-use Rattle.ends.specs.laws.Store.{Store, applied, phaseOf, push, rowsAfter, stackAfter, stageAfter, store, topStage}
+use Rattle.ends.specs.laws.Store.{Store, applied, phaseAfter, push, rowsAfter, stackAfter, stageAfter, store, topStage}
 use Rattle.ends.specs.declared.How.the-variants.{ByAnchor, ByBits}
 use Rattle.ends.specs.declared.Piece.{Piece}
 use Rattle.ends.specs.declared.Rebuilder.{Rebuilder}
@@ -45,10 +45,10 @@ pub record Stands (S : Settings) (yb : ℕ) (bs₀ : List ℕ) (sh₀ : List Row
   pub array : length (st .pieces) ≡ 32
 
 -- what an effect writes lies in the string
-abbrev pub Within : ℕ → Piece → Effect → Type 0
-Within n pc (settles w b) = pc .x + length b ≤ n
-Within n pc (stays t) = Unit {0}
-Within n pc (splits s r b) = pc .x + s + length b ≤ n
+abbrev pub InPiece : ℕ → Piece → Effect → Type 0
+InPiece n pc (settles w b) = pc .x + length b ≤ n
+InPiece n pc (stays t) = Unit {0}
+InPiece n pc (splits s r b) = pc .x + s + length b ≤ n
 
 -- ---- parts of the step: string, sheet, stack, phase
 pub plain-sheet : (l sh₀ : List Row) → rowsAtFront l 0 sh₀ ≡ l ++ drop (length l) sh₀
@@ -83,7 +83,7 @@ one-row l sh₀ r h k =
     (behind-front l sh₀ (suc (length (replicate (length l - 1) noRow))) (omega arith) ∙ ap (λ (j : ℕ). drop j sh₀) (let e : suc (length (replicate (length l - 1) noRow)) ≡ 1 + (length l - 1) = omega arith in e))
 
 -- the phase after an answer
-phase-is : (S : Settings) (c w : ℕ) (arr : List Piece) → cond (ltb (S .ceiling) c && ltb 0 w) AtWhole AtPieces ≡ phaseOf S c (held w arr)
+phase-is : (S : Settings) (c w : ℕ) (arr : List Piece) → cond (ltb (S .ceiling) c && ltb 0 w) AtWhole AtPieces ≡ phaseAfter S c (held w arr)
 phase-is S c w arr = ap (λ (t : Bool). cond (ltb (S .ceiling) c && t) AtWhole AtPieces) (held-any w arr)
 
 blank-at : (n i : ℕ) → getD (blank n) i false ≡ false
@@ -113,14 +113,14 @@ module _ (S : Settings) (yb : ℕ) (bs₀ : List ℕ) (sh₀ : List Row) (st s :
     pub sheet : sh ≡ rowsAtFront (rows ++ new) 0 sh₀
     pub used : st .rows ≡ length rows
 
-  pub stands-tallied : (size : ℕ) → Parts → Stands S yb bs₀ sh₀ 0 (tallied s size (length new)) bs sh (store (phaseOf S (st .counted + size) l) (st .n) (st .counted + size) t l str (rows ++ new))
+  pub stands-tallied : (size : ℕ) → Parts → Stands S yb bs₀ sh₀ 0 (tallied s size (length new)) bs sh (store (phaseAfter S (st .counted + size) l) (st .n) (st .counted + size) t l str (rows ++ new))
   unfolding tallied
   stands-tallied size k =
       let kn = k .n in let ka = k .answered in let ku = k .used in
-      let ph : cond (ltb (s .settings .ceiling) (s .counted + size) && ltb 0 (s .waiting)) AtWhole AtPieces ≡ phaseOf S (st .counted + size) l =
+      let ph : cond (ltb (s .settings .ceiling) (s .counted + size) && ltb 0 (s .waiting)) AtWhole AtPieces ≡ phaseAfter S (st .counted + size) l =
       ap (λ (z : Settings). cond (ltb (z .ceiling) (s .counted + size) && ltb 0 (s .waiting)) AtWhole AtPieces) (k .settings)
       ∙ phase-is S (s .counted + size) (s .waiting) (s .pieces)
-      ∙ ap₂ (λ (c : ℕ) (k : List Piece). phaseOf S (c + size) k) (k .counted) (k .stack) in
+      ∙ ap₂ (λ (c : ℕ) (k : List Piece). phaseAfter S (c + size) k) (k .counted) (k .stack) in
       record {
         str = str;
         rows = rows ++ new;
@@ -193,7 +193,7 @@ module _ (S : Settings) (yb : ℕ) (bs₀ : List ℕ) (sh₀ : List Row) (st : R
       let u = h .used in
       (λ i. sets (h .sheet i) (h .used i) (e i ∷ [])) ∙ add-row (h .rows) sh₀ r′ (omega arith)
 
-  pub stands-effect : (size : ℕ) (e : Effect) → Within (st .n) (top st) e → st .rows + length (rowsAfter S (top st) e) ≤ length sh₀ → IsNext S (top st .p) (top st .q) (st .stage) e
+  pub stands-effect : (size : ℕ) (e : Effect) → InPiece (st .n) (top st) e → st .rows + length (rowsAfter S (top st) e) ≤ length sh₀ → IsNext S (top st .p) (top st .q) (st .stage) e
       → Stands S yb bs₀ sh₀ 0 (effectStep st size e .state) (stringAfter bs (effectStep st size e .string)) (sheetAfter sh (effectStep st size e .sheet))
       (applied S (st .n) (st .counted + size) (top st) below (h .str) (h .rows) e)
   unfolding effectStep

@@ -13,7 +13,7 @@ use Rattle.codes.specs.Repair.{putIn, takeOut}
 use Rattle.messages.specs.Answers.{Answer}
 use Rattle.messages.specs.declared.Question.{Question}
 use Rattle.messages.specs.declared.Question.the-variants.{AskBits, AskOpen}
-use Rattle.ends.specs.Anchors.{away, fits, nearer, nearest, part, place, places}
+use Rattle.ends.specs.Anchors.{placeDistance, fits, nearer, nearest, part, place, places}
 use Rattle.ends.specs.laws.Counts.{Sane, begin-norow, sane}
 use Rattle.ends.specs.laws.Invariant.{Inv, work-chain}
 use Rattle.ends.specs.laws.Kept.{blank-length}
@@ -23,7 +23,7 @@ use Rattle.ends.specs.Runs.{Run, advance, bitsOf, blank, copies, judge, 
 use Rattle.ends.specs.laws.SegmentLaws.{Chain, ask-waits, chain-end, copies-append}
 use Rattle.ends.specs.Claims.{total}
 use Rattle.ends.specs.Segments.{Effect, Segment, ask, asks, begin, dropped, effect, firstStage, hashOf, made, newRows, placed, retry, row, rowsOf, settled, settles, span, splits, stays, step, theBits, theHash, theSize, theSyndrome, trial, trialOf, waiting, waits, work, offset, afterAnchor}
-use Rattle.ends.specs.laws.Shape.{Proper, Shape}
+use Rattle.ends.specs.laws.Shape.{ProperFor, Shape}
 use Rattle.ends.specs.declared.How.{How}
 use Rattle.ends.specs.declared.How.the-variants.{ByAnchor, ByBits, ByHash, ByPutIn, ByTakeOut}
 use Rattle.ends.specs.declared.Piece.{Piece}
@@ -53,8 +53,8 @@ abbrev pub anyPiece : List Piece → Bool
 anyPiece [] = false
 anyPiece (pc ∷ l) = true
 
-abbrev pub phaseOf : Settings → ℕ → List Piece → Phase
-phaseOf S c st = cond (ltb (S .ceiling) c && anyPiece st) AtWhole AtPieces
+abbrev pub phaseAfter : Settings → ℕ → List Piece → Phase
+phaseAfter S c st = cond (ltb (S .ceiling) c && anyPiece st) AtWhole AtPieces
 
 abbrev pub stackAfter : Settings → Piece → List Piece → Effect → List Piece
 stackAfter S pc st (settles w b) = st
@@ -80,7 +80,7 @@ rowsAfter S pc (splits s r b) = row (pc .x + s) (S .m) ByAnchor ∷ []
 
 abbrev pub applied : Settings → (n c : ℕ) → Piece → List Piece → List Bool → List Row → Effect → Store
 applied S n c pc st str rows e =
-    store (phaseOf S c (stackAfter S pc st e)) n c (stageAfter S (stackAfter S pc st e) e) (stackAfter S pc st e) (bitsAfter pc str e) (rows ++ rowsAfter S pc e)
+    store (phaseAfter S c (stackAfter S pc st e)) n c (stageAfter S (stackAfter S pc st e) e) (stackAfter S pc st e) (bitsAfter pc str e) (rows ++ rowsAfter S pc e)
 
 -- one answer
 abbrev pub stepStore : Settings → List Bool → Store → Answer → Store
@@ -107,16 +107,16 @@ stackOf x y (dropped ys ∷ r) = stackOf x (y + length ys) r
 stackOf x y (settled w ys b ∷ r) = stackOf (x + length b) (y + length ys) r
 stackOf x y (waiting p ys t ∷ r) = record { x = x; p = p; y = y; q = length ys } ∷ stackOf (x + p) (y + length ys) r
 
-abbrev pub stageOf : List Segment → Stage
-stageOf [] = Hashing
-stageOf (dropped ys ∷ r) = stageOf r
-stageOf (settled w ys b ∷ r) = stageOf r
-stageOf (waiting p ys t ∷ r) = t
+abbrev pub stageOfTop : List Segment → Stage
+stageOfTop [] = Hashing
+stageOfTop (dropped ys ∷ r) = stageOfTop r
+stageOfTop (settled w ys b ∷ r) = stageOfTop r
+stageOfTop (waiting p ys t ∷ r) = t
 
 abbrev pub storeOf : Run → Store
 storeOf opening = store AtOpening 0 0 Hashing [] [] []
-storeOf (working n c segs rows) = store AtPieces n c (stageOf segs) (stackOf 0 0 segs) (string segs) rows
-storeOf (whole n c segs rows) = store AtWhole n c (stageOf segs) (stackOf 0 0 segs) (string segs) rows
+storeOf (working n c segs rows) = store AtPieces n c (stageOfTop segs) (stackOf 0 0 segs) (string segs) rows
+storeOf (whole n c segs rows) = store AtWhole n c (stageOfTop segs) (stackOf 0 0 segs) (string segs) rows
 
 -- ---- all but the leftmost waiting piece are at their first stage
 abbrev pub Fresh : Settings → List Segment → Type 0
@@ -137,7 +137,7 @@ fresh-tail S (dropped ys ∷ r) f = fresh-tail S r f
 fresh-tail S (settled w ys b ∷ r) f = fresh-tail S r f
 fresh-tail S (waiting p ys t ∷ r) f = f .1
 
-fresh-stage : (S : Settings) (x y : ℕ) (l : List Segment) → Fresh S l → stageOf l ≡ topStage S (stackOf x y l)
+fresh-stage : (S : Settings) (x y : ℕ) (l : List Segment) → Fresh S l → stageOfTop l ≡ topStage S (stackOf x y l)
 fresh-stage S x y [] f = refl
 fresh-stage S x y (dropped ys ∷ r) f = fresh-stage S x (y + length ys) r f
 fresh-stage S x y (settled w ys b ∷ r) f = fresh-stage S (x + length b) (y + length ys) r f
@@ -176,7 +176,7 @@ stack-front x y (settled w ys b ∷ f) l e =
     stack-front (x + length b) (y + length ys) f l e ∙ ap₂ (λ (a b : ℕ). stackOf a b l) (omega arith) (let k = length-append ys (copies f) in omega arith)
 stack-front x y (waiting p ys t ∷ f) l e = absurd (true-false e)
 
-pub stage-front : (f l : List Segment) → waits f ≡ false → stageOf (f ++ l) ≡ stageOf l
+pub stage-front : (f l : List Segment) → waits f ≡ false → stageOfTop (f ++ l) ≡ stageOfTop l
 stage-front [] l e = refl
 stage-front (dropped ys ∷ f) l e = stage-front f l e
 stage-front (settled w ys b ∷ f) l e = stage-front f l e
@@ -231,7 +231,7 @@ chain-front P x e [] l h = rw (add-zero x) h
 chain-front P x e (s ∷ f) l h = let a : x + span s + total span f ≡ x + (span s + total span f) = omega arith in rw a at (chain-front P (x + span s) e f l (h .1))
 
 -- the state asks what the run asks
-ask-same : (S : Settings) (x y : ℕ) (l : List Segment) → askTop S (stageOf l) (stackOf x y l) ≡ ask S x l
+ask-same : (S : Settings) (x y : ℕ) (l : List Segment) → askTop S (stageOfTop l) (stackOf x y l) ≡ ask S x l
 ask-same S x y [] = refl
 ask-same S x y (dropped ys ∷ r) = ask-same S x (y + length ys) r
 ask-same S x y (settled w ys b ∷ r) = ask-same S (x + length b) (y + length ys) r
@@ -273,7 +273,7 @@ upTo-each P i (suc n) e q h = (h i (omega arith), upTo-each P (suc i) n e (omega
 place-within : (S : Settings) (p s : ℕ) (ys b : List Bool) → IfAny (λ r. r + S .m ≤ length ys) (place (S .m) (S .k) p s ys b)
 unfolding place
 place-within S p s ys b =
-    nearest-each (λ r. r + S .m ≤ length ys) (fits (S .m) (S .k) p s ys b) (away p (length ys) s) (places 0 (length ys + 1 - S .m))
+    nearest-each (λ r. r + S .m ≤ length ys) (fits (S .m) (S .k) p s ys b) (placeDistance p (length ys) s) (places 0 (length ys + 1 - S .m))
     (upTo-each (λ r. r + S .m ≤ length ys) 0 (length ys + 1 - S .m) (length ys + 1 - S .m) (omega arith) (λ r h. omega arith))
 
 abbrev pub Landed : Settings → List Bool → Effect → Type 0
@@ -363,7 +363,7 @@ module _ (S : Settings) (L : Limits S) (p : ℕ) (ys : List Bool) (rest : List S
       begin-stack S x y s (take r ys) (settled ByAnchor (part ys r m) b ∷ begin S (p - (s + m)) (drop (r + m) ys) ∷ rest)
       ∙ rw (begin-stack S (x + s + length b) (y + length (take r ys) + length (part ys r m)) (p - (s + m)) (drop (r + m) ys) rest, a₁, a₂, a₃, a₄, z₁, z₂) refl
 
-  stage-is : (e : Effect) → Fresh S rest → total span (made S p ys e) ≡ p → Landed S ys e → Cuts e → stageOf (made S p ys e ++ rest) ≡ stageAfter S (stackAfter S top below e) e
+  stage-is : (e : Effect) → Fresh S rest → total span (made S p ys e) ≡ p → Landed S ys e → Cuts e → stageOfTop (made S p ys e ++ rest) ≡ stageAfter S (stackAfter S top below e) e
   stage-is (settles w b) f h l c = fresh-stage S (x + p) (y + length ys) rest f
   stage-is (stays t) f h l c = refl
   stage-is (splits s r b) f h l c =
@@ -408,13 +408,13 @@ module _ (S : Settings) (Y : List Bool) (L : Limits S) where
   sane-cuts : (p : ℕ) (ys : List Bool) (rest : List Segment) (x y : ℕ) (t : Stage) (e : Effect) → Sane S p t e → Cuts S L p ys rest x y e
   sane-cuts p ys rest x y t (settles w b) h = tt
   sane-cuts p ys rest x y t (stays u) h = tt
-  sane-cuts p ys rest x y t (splits s r b) h = h .0 .room
+  sane-cuts p ys rest x y t (splits s r b) h = h .0 .inside
 
-  judge-is : (n c : ℕ) (segs : List Segment) (rows : List Row) → storeOf (judge S n c segs rows) ≡ store (phaseOf S c (stackOf 0 0 segs)) n c (stageOf segs) (stackOf 0 0 segs) (string segs) rows
+  judge-is : (n c : ℕ) (segs : List Segment) (rows : List Row) → storeOf (judge S n c segs rows) ≡ store (phaseAfter S c (stackOf 0 0 segs)) n c (stageOfTop segs) (stackOf 0 0 segs) (string segs) rows
   unfolding judge
   judge-is n c segs rows = rw (stack-waits 0 0 segs) (go (ltb (S .ceiling) c && waits segs))
     where
-      go : (t : Bool) → storeOf (cond t (whole n c segs rows) (working n c segs rows)) ≡ store (cond t AtWhole AtPieces) n c (stageOf segs) (stackOf 0 0 segs) (string segs) rows
+      go : (t : Bool) → storeOf (cond t (whole n c segs rows) (working n c segs rows)) ≡ store (cond t AtWhole AtPieces) n c (stageOfTop segs) (stackOf 0 0 segs) (string segs) rows
       go true = refl
       go false = refl
 
@@ -438,20 +438,20 @@ module _ (S : Settings) (Y : List Bool) (L : Limits S) where
       let step′ : step S a segs ≡ front ++ (work S a p ys t ++ rest) = step-front S a front (waiting p ys t ∷ rest) w in
       let d₁ : stackOf 0 0 (step S a segs) ≡ stackAfter S pc st e =
       ap (stackOf 0 0) step′ ∙ stack-front 0 0 front (work S a p ys t ++ rest) w ∙ stack-is S L p ys rest x₀ y₀ (effect S a p ys t) z la cu in
-      let d₂ : stageOf (step S a segs) ≡ stageAfter S (stackAfter S pc st e) e =
-      ap stageOf step′ ∙ stage-front front (work S a p ys t ++ rest) w ∙ stage-is S L p ys rest x₀ y₀ (effect S a p ys t) f z la cu in
+      let d₂ : stageOfTop (step S a segs) ≡ stageAfter S (stackAfter S pc st e) e =
+      ap stageOfTop step′ ∙ stage-front front (work S a p ys t ++ rest) w ∙ stage-is S L p ys rest x₀ y₀ (effect S a p ys t) f z la cu in
       let d₃ : string (step S a segs) ≡ bitsAfter pc str e =
       ap string step′ ∙ string-append front (work S a p ys t ++ rest) ∙ bits-is S L p ys rest x₀ y₀ (string front) (effect S a p ys t) sf z cu in
       let d₄ : newRows S a 0 segs ≡ rowsAfter S pc e =
       rows-front S a 0 front (waiting p ys t ∷ rest) w ∙ rows-is S L p ys rest x₀ y₀ (effect S a p ys t) z cu in
       let e₁ : stackOf 0 0 segs ≡ pc ∷ st = stack-front 0 0 front (waiting p ys t ∷ rest) w in
-      let e₂ : stageOf segs ≡ t = stage-front front (waiting p ys t ∷ rest) w in
+      let e₂ : stageOfTop segs ≡ t = stage-front front (waiting p ys t ∷ rest) w in
       let e₃ : string segs ≡ str = string-append front (waiting p ys t ∷ rest) in
       let ca : copies front ++ (ys ++ copies rest) ≡ Y = sym (copies-append front (waiting p ys t ∷ rest)) ∙ k in
       let e₄ : part Y y₀ (length ys) ≡ ys =
       ap (λ (l : List Bool). part l y₀ (length ys)) (sym ca) ∙ ap (take (length ys)) (drop-at (copies front) (ys ++ copies rest) y₀ (omega arith)) ∙ take-at ys (copies rest) (length ys) refl in
       let left : storeOf (judge S n c′ (step S a segs) (rows ++ newRows S a 0 segs)) ≡ applied S n c′ pc st str rows e =
-      judge-is n c′ (step S a segs) (rows ++ newRows S a 0 segs) ∙ (λ i. store (phaseOf S c′ (d₁ i)) n c′ (d₂ i) (d₁ i) (d₃ i) (rows ++ d₄ i)) in
+      judge-is n c′ (step S a segs) (rows ++ newRows S a 0 segs) ∙ (λ i. store (phaseAfter S c′ (d₁ i)) n c′ (d₂ i) (d₁ i) (d₃ i) (rows ++ d₄ i)) in
       let right : stepStore S Y (storeOf (working n c segs rows)) a ≡ applied S n c′ pc st str rows e =
       (λ i. stepStore S Y (store AtPieces n c (e₂ i) (e₁ i) (e₃ i) rows) a) ∙ ap (λ (l : List Bool). applied S n c′ pc st str rows (effect S a p l t)) e₄ in
       left ∙ sym right
@@ -461,7 +461,7 @@ module _ (S : Settings) (Y : List Bool) (L : Limits S) where
   judge-tidy n c segs rows h = by-test (Tidy S) (ltb (S .ceiling) c && waits segs) {a = whole n c segs rows} {b = working n c segs rows} (λ e. h) (λ e. h)
 
   -- for pieces that are cut at the one that waits
-  keeps-step : (n c : ℕ) (segs front rest : List Segment) (p : ℕ) (ys : List Bool) (t : Stage) (rows : List Row) (q : Question) (a : Answer) → Proper S q a
+  keeps-step : (n c : ℕ) (segs front rest : List Segment) (p : ℕ) (ys : List Bool) (t : Stage) (rows : List Row) (q : Question) (a : Answer) → ProperFor S q a
       → segs ≡ front ++ (waiting p ys t ∷ rest) → waits front ≡ false → FreshTail S segs → Chain (Shape S n) 0 segs n → copies segs ≡ Y → ask S 0 segs ≡ some q
       → (storeOf (judge S n (c + sizeOf a) (step S a segs) (rows ++ newRows S a 0 segs)) ≡ stepStore S Y (storeOf (working n c segs rows)) a)
       × FreshTail S (step S a segs)
@@ -481,13 +481,13 @@ module _ (S : Settings) (Y : List Bool) (L : Limits S) where
       )
 
   -- whatever proper answer is taken
-  pub keeps-pace : (asked : ℕ) (s : Run) (q : Question) (a : Answer) → Proper S q a → Inv S Y asked s → Tidy S s → question S s ≡ some q
+  pub keeps-pace : (asked : ℕ) (s : Run) (q : Question) (a : Answer) → ProperFor S q a → Inv S Y asked s → Tidy S s → question S s ≡ some q
       → (storeOf (advance S Y s a) ≡ stepStore S Y (storeOf s) a) × Tidy S (advance S Y s a)
   keeps-pace asked opening q a o i t k =
       let n = theSize a in
       let b₁ : stackOf 0 0 (begin S n Y ∷ []) ≡ push (record { x = 0; p = n; y = 0; q = length Y }) [] = begin-stack S 0 0 n Y [] in
       let fr : Fresh S (begin S n Y ∷ []) = begin-fresh S n Y [] tt in
-      let b₂ : stageOf (begin S n Y ∷ []) ≡ topStage S (push (record { x = 0; p = n; y = 0; q = length Y }) []) = fresh-stage S 0 0 (begin S n Y ∷ []) fr ∙ ap (topStage S) b₁ in
+      let b₂ : stageOfTop (begin S n Y ∷ []) ≡ topStage S (push (record { x = 0; p = n; y = 0; q = length Y }) []) = fresh-stage S 0 0 (begin S n Y ∷ []) fr ∙ ap (topStage S) b₁ in
       let b₃ : string (begin S n Y ∷ []) ≡ blank n = append-nil (bitsOf (begin S n Y)) ∙ begin-bits S n Y in
       ((λ j. store AtPieces n 0 (b₂ j) (b₁ j) (b₃ j) []), fresh-tail S (begin S n Y ∷ []) fr)
   keeps-pace asked (working n c segs rows) q a o i t k =

@@ -18,7 +18,7 @@ use Rattle.ends.specs.declared.Rebuilder.{Rebuilder}
 use Rattle.ends.specs.declared.Stage.{Stage}
 use Rattle.ends.specs.States.{noPiece}
 use Rattle.layout.specs.Bytes32.{bytesOf, wordAt}
-use Rattle.layout.specs.Layout.{allBytes, openedNumber, openedOf, phaseNumber, phaseOf, stageNumber, stageOf, holderSize, holderBytes, holderOf, isHolder, pieceBytes, pieceAt, piecesBytes, piecesAt, rebuilderSize, fieldBytes, rebuilderBytes, fieldsOf, rebuilderOf, isRebuilder}
+use Rattle.layout.specs.Layout.{allBytes, openedNumber, openedOf, phaseNumber, phaseOf, stageNumber, stageOf, holderSize, holderBytes, holderOf, isHolder, pieceBytes, pieceAt, piecesBytes, piecesAt, rebuilderSize, headBytes, rebuilderBytes, fieldsOf, rebuilderOf, isRebuilder}
 use Rattle.strings.specs.laws.StoreLaws.{sets-append, sets-front}
 use Rattle.strings.specs.laws.PackLaws.{Bytes}
 use Rattle.strings.specs.laws.Tests.{and-left, and-true}
@@ -43,14 +43,14 @@ length-pieces l i (suc n) =
     let c = length-pieces l (suc i) n in
     omega arith
 
-pub length-fields : (st : Rebuilder) → length (fieldBytes st) ≡ 52
-unfolding fieldBytes allBytes bytesOf
+pub length-fields : (st : Rebuilder) → length (headBytes st) ≡ 52
+unfolding headBytes allBytes bytesOf
 length-fields st = refl
 
 pub length-rebuilder : (st : Rebuilder) → length (rebuilderBytes st) ≡ rebuilderSize
 unfolding rebuilderBytes
 length-rebuilder st =
-    let a = length-append (fieldBytes st) (piecesBytes (st .pieces) 0 32) in
+    let a = length-append (headBytes st) (piecesBytes (st .pieces) 0 32) in
     let b = length-fields st in
     let c = length-pieces (st .pieces) 0 32 in
     omega arith
@@ -173,13 +173,13 @@ state-same o p q r s t u v w x = rw (o, p, q, r, s, t, u, v, w, x) refl
 pieces-back : (st : Rebuilder) (l : List ℕ) → RebuilderFits st → piecesAt (rebuilderBytes st ++ l) 52 32 ≡ st .pieces
 unfolding rebuilderBytes
 pieces-back st l f =
-    ap₂ (λ (m : List ℕ) (a : ℕ). piecesAt m a 32) (append-assoc (fieldBytes st) (piecesBytes (st .pieces) 0 32) l) (sym (length-fields st))
-    ∙ pieces-read (st .pieces) 0 32 (fieldBytes st) l (f .pieces-fit)
+    ap₂ (λ (m : List ℕ) (a : ℕ). piecesAt m a 32) (append-assoc (headBytes st) (piecesBytes (st .pieces) 0 32) l) (sym (length-fields st))
+    ∙ pieces-read (st .pieces) 0 32 (headBytes st) l (f .pieces-fit)
     ∙ some-is (st .pieces) 0 32 (let e = f .pieces-number in omega arith)
     ∙ take-all 32 (st .pieces) (let e = f .pieces-number in omega arith)
 
 pub rebuilder-read : (st : Rebuilder) (l : List ℕ) → RebuilderFits st → rebuilderOf (rebuilderBytes st ++ l) ≡ st
-unfolding rebuilderOf fieldsOf rebuilderBytes fieldBytes allBytes bytesOf wordAt
+unfolding rebuilderOf fieldsOf rebuilderBytes headBytes allBytes bytesOf wordAt
 rebuilder-read st l f =
     let g = f .settings-fit in
     state-same
@@ -214,11 +214,11 @@ pub holder-bytes-are : (st : Holder) → isHolder (holderBytes st) ≡ true
 holder-bytes-are st = ap isHolder (sym (append-nil (holderBytes st))) ∙ holder-bytes-front st []
 
 phase-word : (st : Rebuilder) (l : List ℕ) → wordAt (rebuilderBytes st ++ l) 24 ≡ phaseNumber (st .phase)
-unfolding rebuilderBytes fieldBytes allBytes bytesOf wordAt
+unfolding rebuilderBytes headBytes allBytes bytesOf wordAt
 phase-word st l = digits (phaseNumber (st .phase)) (let k = phase-most (st .phase) in omega arith)
 
 stage-word : (st : Rebuilder) (l : List ℕ) → wordAt (rebuilderBytes st ++ l) 44 ≡ stageNumber (st .stage)
-unfolding rebuilderBytes fieldBytes allBytes bytesOf wordAt
+unfolding rebuilderBytes headBytes allBytes bytesOf wordAt
 stage-word st l = digits (stageNumber (st .stage)) (let k = stage-most (st .stage) in omega arith)
 
 pub rebuilder-bytes-front : (st : Rebuilder) (l : List ℕ) → isRebuilder (rebuilderBytes st ++ l) ≡ true
@@ -335,9 +335,9 @@ read-turn st s u i pc h e f =
     ∙ ap (λ (n : ℕ). sets (st .pieces) i (piecesAt s (52 + 16 * i) n)) k)
     ∙ f
 
-pub read-end : (st : Rebuilder) (s : List ℕ) (u : Rebuilder) (i : ℕ) → 32 ≤ i → withPieces st (sets (st .pieces) i (piecesAt s (52 + 16 * i) (32 - i))) ≡ u → st ≡ u
+pub rest-read : (st : Rebuilder) (s : List ℕ) (u : Rebuilder) (i : ℕ) → 32 ≤ i → withPieces st (sets (st .pieces) i (piecesAt s (52 + 16 * i) (32 - i))) ≡ u → st ≡ u
 unfolding piecesAt
-read-end st s u i h f = let k : 0 ≡ 32 - i = omega arith in ap (λ (n : ℕ). withPieces st (sets (st .pieces) i (piecesAt s (52 + 16 * i) n))) k ∙ f
+rest-read st s u i h f = let k : 0 ≡ 32 - i = omega arith in ap (λ (n : ℕ). withPieces st (sets (st .pieces) i (piecesAt s (52 + 16 * i) n))) k ∙ f
 
 -- ---- whole states at the front of the bytes
 pub holder-front : (s : List ℕ) (st : Holder) → holderSize ≤ length s → sets s 0 (holderBytes st) ≡ holderBytes st ++ drop holderSize s
@@ -361,8 +361,8 @@ pub fields-stored : (s t u v w : List ℕ) (st : Rebuilder) (p q : ℕ) → p �
     → u ≡ sets t 16 (allBytes (st .settings .ceiling ∷ st .ybits ∷ p ∷ st .n ∷ []))
     → v ≡ sets u 32 (allBytes (st .answered ∷ st .counted ∷ st .rows ∷ q ∷ []))
     → w ≡ sets v 48 (bytesOf (st .waiting))
-    → w ≡ sets s 0 (fieldBytes st)
-unfolding fieldBytes allBytes bytesOf
+    → w ≡ sets s 0 (headBytes st)
+unfolding headBytes allBytes bytesOf
 fields-stored s t u v w st p q i j e f g h =
     let a : List ℕ = allBytes (st .settings .m ∷ st .settings .h ∷ st .settings .k ∷ st .settings .key ∷ []) in
     let b : List ℕ = allBytes (st .settings .ceiling ∷ st .ybits ∷ p ∷ st .n ∷ []) in
@@ -374,8 +374,8 @@ fields-stored s t u v w st p q i j e f g h =
     st .settings .m ∷ st .settings .h ∷ st .settings .k ∷ st .settings .key ∷ st .settings .ceiling ∷
     st .ybits ∷ x ∷ st .n ∷ st .answered ∷ st .counted ∷ st .rows ∷ y ∷ st .waiting ∷ []))) i j
 
-pub rebuilder-stored : (s t u : List ℕ) (st : Rebuilder) → rebuilderSize ≤ length s → t ≡ sets s 0 (fieldBytes st) → u ≡ sets t 52 (piecesBytes (st .pieces) 0 32)
+pub rebuilder-stored : (s t u : List ℕ) (st : Rebuilder) → rebuilderSize ≤ length s → t ≡ sets s 0 (headBytes st) → u ≡ sets t 52 (piecesBytes (st .pieces) 0 32)
     → u ≡ rebuilderBytes st ++ drop rebuilderSize s
 unfolding rebuilderBytes
 rebuilder-stored s t u st h e f =
-    store-next s t u 0 52 (fieldBytes st) (piecesBytes (st .pieces) 0 32) e f (let l = length-fields st in omega arith) ∙ rebuilder-front s st h
+    store-next s t u 0 52 (headBytes st) (piecesBytes (st .pieces) 0 32) e f (let l = length-fields st in omega arith) ∙ rebuilder-front s st h

@@ -4,13 +4,13 @@ use borrow.Author.Needs.{needs}
 use lib.ListN.{length, drop}
 use Rattle.strings.specs.Bits.{writeBits}
 use Rattle.strings.specs.laws.BitLaws.{length-setBit}
-use Rattle.lines.specs.StringLine.{bitsOf}
+use Rattle.lines.specs.StringLine.{lineBits}
 use Rattle.lines.specs.laws.StringLaws.{line-next, line-last}
 use Rattle.lines.proofs.write_line.Statement.{statement}
 use Rattle.lines.proofs.write_line.Tie as tie
 
 abbrev Inv-loop : tie.InvT-loop
-Inv-loop s out₀ i₀ out i = (length out ≡ length out₀) × (writeBits out i (bitsOf (drop i s)) ≡ writeBits out₀ 0 (bitsOf s))
+Inv-loop s out₀ i₀ out i = (length out ≡ length out₀) × (writeBits out i (lineBits (drop i s)) ≡ writeBits out₀ 0 (lineBits s))
 
 abbrev μ-loop : tie.MeasureT-loop
 μ-loop s out₀ i₀ out i = length s - i

@@ -9,7 +9,7 @@ use Rattle.strings.specs.Bits.{bitAt, flipped, setBit, writeBits, pack}
 use Rattle.strings.specs.Results.{refusal, value}
 use Rattle.lines.specs.Fields.{beforeFirst, fieldEnd, fieldFrom, field}
 use Rattle.lines.specs.SettingsLine.{isDigit, allDigits, valueFrom, decimalOf, groupOf, fiveGroups, settingsOf, settingsIn}
-use Rattle.lines.specs.StringLine.{isBit, allBits, bitsOf, stringOf, stringIn, leavesString}
+use Rattle.lines.specs.StringLine.{isBit, allBits, lineBits, stringOf, stringIn, leavesString}
 use Rattle.lines.specs.Printing.{hexDigit, hexOf, digitsIn, decimal, bitBytes, messageLine, rowLine, lastLine, refusalLine}
 
 -- the three lines `8 8 1 1 100`, `1011`, `101`
@@ -29,7 +29,7 @@ pub record ExampleRead : Type 0 where
   pub y : leavesString lent (stringIn input 2 (length lent)) ≡ record { count = value 3; buffer = 0xa0 ∷ 7 ∷ [] }
 
 pub example-read : ExampleRead
-unfolding field fieldFrom fieldEnd beforeFirst settingsIn settingsOf fiveGroups groupOf bind decimalOf valueFrom allDigits isDigit stringIn stringOf allBits isBit bitsOf pack writeBits setBit flipped bitAt
+unfolding field fieldFrom fieldEnd beforeFirst settingsIn settingsOf fiveGroups groupOf bind decimalOf valueFrom allDigits isDigit stringIn stringOf allBits isBit lineBits pack writeBits setBit flipped bitAt
 example-read = record { settings = refl; x = refl; y = refl }
 
 -- the lines that 01 prints for it, each followed by its bytes
@@ -61,7 +61,7 @@ pub record Edges : Type 0 where
   -- a carriage return is no bit
   pub carriage-return : leavesString lent (stringOf (49 ∷ 13 ∷ []) (length lent)) ≡ record { count = refusal 2; buffer = lent }
   -- nine bits take two bytes
-  pub no-room : stringOf (49 ∷ 49 ∷ 49 ∷ 49 ∷ 49 ∷ 49 ∷ 49 ∷ 49 ∷ 49 ∷ []) 1 ≡ refusal 9
+  pub no-capacity : stringOf (49 ∷ 49 ∷ 49 ∷ 49 ∷ 49 ∷ 49 ∷ 49 ∷ 49 ∷ 49 ∷ []) 1 ≡ refusal 9
   -- `0012` is 12; no digit at all, and a sign, make no number
   pub leading-zeros : decimalOf (48 ∷ 48 ∷ 49 ∷ 50 ∷ []) ≡ some 12
   pub no-digit : decimalOf [] ≡ none
@@ -82,7 +82,7 @@ pub record Edges : Type 0 where
   pub refused : refusalLine 1 ≡ 82 ∷ 32 ∷ 49 ∷ 10 ∷ []
 
 pub edges : Edges
-unfolding field fieldFrom fieldEnd beforeFirst settingsOf fiveGroups groupOf bind decimalOf valueFrom allDigits isDigit stringIn stringOf allBits isBit bitsOf pack writeBits lastLine refusalLine decimal digitsIn bitBytes
+unfolding field fieldFrom fieldEnd beforeFirst settingsOf fiveGroups groupOf bind decimalOf valueFrom allDigits isDigit stringIn stringOf allBits isBit lineBits pack writeBits lastLine refusalLine decimal digitsIn bitBytes
 edges =
     record {
       unended = refl;
@@ -90,7 +90,7 @@ edges =
       missing-string = refl;
       empty = refl;
       carriage-return = refl;
-      no-room = refl;
+      no-capacity = refl;
       leading-zeros = refl;
       no-digit = refl;
       sign = refl;

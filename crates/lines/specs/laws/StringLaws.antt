@@ -15,7 +15,7 @@ use Rattle.lines.specs.declared.FieldFound.{FieldFound}
 use Rattle.lines.specs.declared.FieldFound.the-variants.{Spans, Missing}
 use Rattle.lines.specs.declared.StringRead.the-variants.{Packed, NotBits, BufferTooShort}
 use Rattle.lines.specs.Fields.{newlineByte, field, bytesBetween}
-use Rattle.lines.specs.StringLine.{isBit, allBits, bitsOf, stringOf, stringIn, leavesString, saidString}
+use Rattle.lines.specs.StringLine.{isBit, allBits, lineBits, stringOf, stringIn, leavesString, saidString}
 use Rattle.lines.specs.code.Readings.{saidField}
 
 pub bit-zero : (x : ℕ) → x ≡ 48 → true ≡ isBit x
@@ -42,20 +42,20 @@ module _ (s : List ℕ) (i : ℕ) where
   bits-last h = rw (drop-of-length-le s {i = i} h) refl
 
   -- ---- and written bit by bit
-  pub line-next : (t t′ u : List ℕ) → i < length s → t′ ≡ setBit t i (eqb (getD s i 0) 49) → writeBits t i (bitsOf (drop i s)) ≡ u → writeBits t′ (i + 1) (bitsOf (drop (i + 1) s)) ≡ u
-  unfolding bitsOf
+  pub line-next : (t t′ u : List ℕ) → i < length s → t′ ≡ setBit t i (eqb (getD s i 0) 49) → writeBits t i (lineBits (drop i s)) ≡ u → writeBits t′ (i + 1) (lineBits (drop (i + 1) s)) ≡ u
+  unfolding lineBits
   line-next t t′ u h e f =
-      ap₂ (λ (x : List ℕ) (k : ℕ). writeBits x (i + 1) (bitsOf (drop k s))) e (add-one i)
-      ∙ sym (write-next t i (eqb (getD s i 0) 49) (bitsOf (drop (suc i) s)))
-      ∙ ap (λ (l : List ℕ). writeBits t i (bitsOf l)) (sym (drop-cons s i 0 h))
+      ap₂ (λ (x : List ℕ) (k : ℕ). writeBits x (i + 1) (lineBits (drop k s))) e (add-one i)
+      ∙ sym (write-next t i (eqb (getD s i 0) 49) (lineBits (drop (suc i) s)))
+      ∙ ap (λ (l : List ℕ). writeBits t i (lineBits l)) (sym (drop-cons s i 0 h))
       ∙ f
 
-  pub line-last : (t u : List ℕ) → length s ≤ i → writeBits t i (bitsOf (drop i s)) ≡ u → t ≡ u
-  unfolding bitsOf
-  line-last t u h f = sym (write-none t i) ∙ ap (λ (l : List ℕ). writeBits t i (bitsOf l)) (sym (drop-of-length-le s {i = i} h)) ∙ f
+  pub line-last : (t u : List ℕ) → length s ≤ i → writeBits t i (lineBits (drop i s)) ≡ u → t ≡ u
+  unfolding lineBits
+  line-last t u h f = sym (write-none t i) ∙ ap (λ (l : List ℕ). writeBits t i (lineBits l)) (sym (drop-of-length-le s {i = i} h)) ∙ f
 
-pub length-bits : (l : List ℕ) → length (bitsOf l) ≡ length l
-unfolding bitsOf
+pub length-bits : (l : List ℕ) → length (lineBits l) ≡ length l
+unfolding lineBits
 length-bits [] = refl
 length-bits (x ∷ l) = ap suc (length-bits l)
 
@@ -74,14 +74,14 @@ module _ (line buf : List ℕ) where
     unfolding stringOf
     string-short e h = rw (le-leb (length line) maxBits few, ← d, e, lt-leb (bytesFor (length line)) (length buf) h) refl
 
-    pub string-packed : t ≡ true → bytesFor (length line) ≤ length buf → (u w : List ℕ) → u ≡ cleared buf 0 (bytesFor (length line)) → w ≡ writeBits u 0 (bitsOf line)
+    pub string-packed : t ≡ true → bytesFor (length line) ≤ length buf → (u w : List ℕ) → u ≡ cleared buf 0 (bytesFor (length line)) → w ≡ writeBits u 0 (lineBits line)
         → saidString (Packed (length line)) w ≡ leavesString buf (stringOf line (length buf))
     unfolding stringOf
     string-packed e h u w f g =
         rw (le-leb (length line) maxBits few, ← d, e, le-leb (bytesFor (length line)) (length buf) h) (ap₂ (λ (n : ℕ) (l : List ℕ). saidString (Packed n) l) (sym (length-bits line)) whole)
       where
-        whole : w ≡ atFront (pack (bitsOf line)) buf
-        whole = g ∙ ap (λ (l : List ℕ). writeBits l 0 (bitsOf line)) f ∙ packed-into buf (bitsOf line) (length line) (length-bits line) h
+        whole : w ≡ atFront (pack (lineBits line)) buf
+        whole = g ∙ ap (λ (l : List ℕ). writeBits l 0 (lineBits line)) f ∙ packed-into buf (lineBits line) (length line) (length-bits line) h
 
 module _ (input buf : List ℕ) (i : ℕ) {r : FieldFound} (p : saidField r ≡ field newlineByte i input) where
   pub string-missing : r ≡ Missing → saidString NotBits buf ≡ leavesString buf (stringIn input i (length buf))

@@ -391,7 +391,7 @@ module _ (s : List ℕ) (bytes : Bytes s) where
       is₂
 
 -- what a reader that found v at a position, up to b, had before it
-pub record Stands (s : List ℕ) (at v b : ℕ) : Type 0 where
+pub record NumberStands (s : List ℕ) (at v b : ℕ) : Type 0 where
   pub small : v < 4294967296
   pub ends : b ≡ at + length (number v)
   pub starts : at < b
@@ -407,7 +407,7 @@ drop-take s at b h k =
     let e : b ≡ at + (b - at) = omega arith in
     ap (λ (n : ℕ). drop at (take n s)) e ∙ ap (drop at) (take-add at (b - at) s) ∙ drop-at (take at s) (take (b - at) (drop at s)) at (length-take-le at s (omega arith))
 
-stands-so : (s : List ℕ) (at v b : ℕ) → v < 4294967296 → b ≡ at + length (number v) → b ≤ length s → drop at s ≡ number v ++ drop b s → Stands s at v b
+stands-so : (s : List ℕ) (at v b : ℕ) → v < 4294967296 → b ≡ at + length (number v) → b ≤ length s → drop at s ≡ number v ++ drop b s → NumberStands s at v b
 stands-so s at v b m e h d =
     let p = size-some v in
     let f : take (b - at) (drop at s) ≡ number v = ap (take (b - at)) d ∙ take-at (number v) (drop b s) (b - at) (omega arith) in
@@ -422,7 +422,7 @@ stands-so s at v b m e h d =
     }
 
 module _ (s : List ℕ) (at v b : ℕ) (h : at < length s) where
-  short-stands : getD s at 0 < 128 → _≡_ {A = Result (ℕ × ℕ)} (value (getD s at 0, at + 1)) (value (v, b)) → Stands s at v b
+  short-stands : getD s at 0 < 128 → _≡_ {A = Result (ℕ × ℕ)} (value (getD s at 0, at + 1)) (value (v, b)) → NumberStands s at v b
   short-stands l q =
       let o = number-is q in
       let x = o .0 in
@@ -431,7 +431,7 @@ module _ (s : List ℕ) (at v b : ℕ) (h : at < length s) where
       stands-so s at v b (omega arith) (omega arith) (omega arith)
       (last-stands s at v h x ∙ ap (λ (j : ℕ). v ∷ drop j s) y ∙ ap (λ (l : List ℕ). l ++ drop b s) (sym (number-last v (omega arith))))
 
-  long-stands : 128 ≤ getD s at 0 → getD s at 0 < 256 → Raised 3 s (at + 1) 128 (getD s at 0 - 128) v b → Stands s at v b
+  long-stands : 128 ≤ getD s at 0 → getD s at 0 < 256 → Raised 3 s (at + 1) 128 (getD s at 0 - 128) v b → NumberStands s at v b
   unfolding number
   long-stands l m r =
       let u = r .v in
@@ -443,12 +443,12 @@ module _ (s : List ℕ) (at v b : ℕ) (h : at < length s) where
       stands-so s at v b (omega arith) (let y = r .ends in omega arith) (r .inside)
       (last-stands s at (getD s at 0) h refl ∙ ap (λ (t : List ℕ). getD s at 0 ∷ t) (r .stands) ∙ ap (λ (t : List ℕ). t ++ drop b s) (sym f))
 
-pub number-form : (s : List ℕ) (at v b : ℕ) → Bytes s → numberAt s at ≡ value (v, b) → Stands s at v b
+pub number-form : (s : List ℕ) (at v b : ℕ) → Bytes s → numberAt s at ≡ value (v, b) → NumberStands s at v b
 unfolding numberAt
 number-form s at v b bytes is =
     let (e, is₁) = unless-passed (ltb at (length s)) Truncated _ (v, b) is in
     let l = ltb-true at (length s) e in
-    by-test (λ (r : Result (ℕ × ℕ)). r ≡ value (v, b) → Stands s at v b) (ltb (getD s at 0) 128)
+    by-test (λ (r : Result (ℕ × ℕ)). r ≡ value (v, b) → NumberStands s at v b) (ltb (getD s at 0) 128)
     (λ g q. short-stands s at v b l (ltb-true (getD s at 0) 128 g) q)
     (λ g q. long-stands s at v b l (ltb-false (getD s at 0) 128 g) (bytes at) (raised s bytes 3 (at + 1) 128 (getD s at 0 - 128) v b q))
     is₁

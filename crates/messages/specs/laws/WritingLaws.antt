@@ -107,7 +107,7 @@ part-sets buf u m at h e =
     sets-eq m (drop at buf) 0 (omega arith) ∙ ap (λ (l : List ℕ). m ++ l) (ap (λ (i : ℕ). drop i (drop at buf)) (zero-add (length m)) ∙ drop-drop (length m) at buf) in
     rw (f, append-nil u) (ap (λ (l : List ℕ). take at buf ++ l) (e ∙ ap (λ (l : List ℕ). sets l 0 m) g ∙ k) ∙ sym (append-assoc (take at buf) m (drop (at + length m) buf)) ∙ sym (sets-eq m buf at h))
 
--- a message for which there is room was written
+-- a message that fits the buffer was written
 pub wrote-is : (w : WriteResult) (t m buf : List ℕ) → saidWrite w t ≡ putFront m buf → length m ≤ length buf → (w ≡ Written (length m)) × (t ≡ atFront m buf)
 wrote-is (Written n) t m buf e h =
     let f = e ∙ put-fits m buf h in

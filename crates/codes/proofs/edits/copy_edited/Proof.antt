@@ -17,7 +17,7 @@ copy-put-requires c κs =
     let bits = range (s .args .s .now) (s .args .start) (s .args .len) in
     let m = as-put (s .args .e) bits (s .args .len) (range-length _ _ _) (s .pre .1 .0) (c .before .before .e .given .0 .0) (c .before .before .e .given .0 .1 .0) (c .before .before .e .given .1) in
     let long = m .1 in
-    let room = s .pre .1 .1 in
+    let capacity = s .pre .1 .1 in
     (s .pre .0, (m .0, record { there = omega arith; few = omega arith }))
 
 enum-known-e-2 : tie.Need-enum-known-e-2
@@ -29,7 +29,7 @@ copy-take-requires c κs =
     let bits = range (s .args .s .now) (s .args .start) (s .args .len) in
     let m = as-take (s .args .e) bits (s .args .len) (range-length _ _ _) (s .pre .1 .0) (c .before .before .e2 .given .0 .0) (c .before .before .e2 .given .1) in
     let long = m .1 in
-    let room = s .pre .1 .1 in
+    let capacity = s .pre .1 .1 in
     (s .pre .0, (m .0, record { there = omega arith; few = omega arith }))
 
 same-length : tie.Need-same-length

@@ -16,7 +16,7 @@ use Rattle.strings.specs.Results.{value}
 use Rattle.codes.specs.Entries.{repairRange, repairCall, repairLeft, saidRepair}
 use Rattle.codes.specs.laws.EditLaws.{found-is, found-fits, nothing-is}
 use Rattle.codes.specs.laws.RepairLaws.{repair-length}
-use Rattle.codes.specs.laws.EntryLaws.{whole-part, string-few, repair-range-is, repair-bad-string, repair-out-of-range, repair-no-room, repair-value}
+use Rattle.codes.specs.laws.EntryLaws.{whole-part, string-few, repair-range-is, repair-bad-string, repair-out-of-range, repair-too-short, repair-value}
 use borrow.Author.Needs.{needs}
 use Rattle.codes.proofs.entries.repair.Statement.{statement}
 use Rattle.codes.proofs.entries.repair.Tie as tie
@@ -63,7 +63,7 @@ add-if3 c =
 returns-3 : tie.Need-returns-3
 returns-3 c =
     let args = c .before .before .before .before .before .before .before .args in
-    sym (ap (repairLeft (args .out .now)) (repair-no-room (args .s .now) (args .bits) (args .n) (args .a) (length (args .out .now)) (string-kept (c .before .before .before)) (range-kept (c .before)) (c .if3 .taken)))
+    sym (ap (repairLeft (args .out .now)) (repair-too-short (args .s .now) (args .bits) (args .n) (args .a) (length (args .out .now)) (string-kept (c .before .before .before)) (range-kept (c .before)) (c .if3 .taken)))
 
 find-repair-requires : tie.Need-find-repair-requires
 find-repair-requires c κs =

@@ -1,7 +1,7 @@
 use mathlib.Core.Path.{sym, _∙_}
 use lib.ListN.{length}
 use borrow.Author.Tests.{not-true, not-false}
-use Rattle.ends.specs.code.HolderCodeLaws.{kind-no-fields, refused-said, kind-out-of-turn, kind-fields, able-ready, said-by}
+use Rattle.ends.specs.code.HolderCodeLaws.{kind-no-fields, refused-holder, kind-out-of-turn, kind-fields, able-ready, said-by}
 use borrow.Author.Needs.{needs}
 use Rattle.ends.proofs.answering.answer_kind.Statement.{statement}
 use Rattle.ends.proofs.answering.answer_kind.Tie as tie
@@ -14,7 +14,7 @@ refuse-requires c κs = search needs
 
 returns : tie.Need-returns
 returns c = let a = c .before .before .before .before .before .before .args in
-    refused-said (a .reply .now) (c .refuse .ensures)
+    refused-holder (a .reply .now) (c .refuse .ensures)
     (kind-out-of-turn (a .st) (a .x .now) (a .n) (a .msg .now) (length (a .reply .now)) (a .kind) (a .at) (sym (c .before .before .is-in-turn .ensures) ∙ not-true _ (c .before .if1 .taken)))
 
 read-fields-requires : tie.Need-read-fields-requires
@@ -34,7 +34,7 @@ answer-question-requires c κs = let a = c .before .before .before .before .befo
 
 returns-2 : tie.Need-returns-2
 returns-2 c = let a = c .before .before .before .before .before .before .before .before .before .before .args in
-    refused-said (a .reply .now) (c .refuse2 .ensures)
+    refused-holder (a .reply .now) (c .refuse2 .ensures)
     (kind-no-fields (a .st) (a .x .now) (a .n) (a .msg .now) (length (a .reply .now)) (a .kind) (a .at) (sym (c .before .before .before .before .before .before .is-in-turn .ensures) ∙ not-false _ (c .before .before .before .before .before .if1 .left)) (c .before .before .before .before .read-fields .ensures) (c .before .before .e .given .1))
 
 same-length : tie.Need-same-length

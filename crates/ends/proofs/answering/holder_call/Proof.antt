@@ -6,7 +6,7 @@ use borrow.Author.Tests.{not-true, not-false}
 use Rattle.strings.specs.StringRule.{stringRule}
 use Rattle.ends.specs.Soundness.{holderSound}
 use Rattle.ends.specs.HolderCall.{sameBitCount}
-use Rattle.ends.specs.code.HolderCodeLaws.{call-no-kind, refused-said, tests-able, able-few, call-bad-string, call-out-of-turn, call-kind, said-by}
+use Rattle.ends.specs.code.HolderCodeLaws.{call-no-kind, refused-holder, tests-able, able-few, call-bad-string, call-out-of-turn, call-kind, said-by}
 use Rattle.strings.specs.laws.Tests.{test-is}
 use borrow.Author.Needs.{needs}
 use Rattle.ends.proofs.answering.holder_call.Statement.{statement}
@@ -33,7 +33,7 @@ refuse-requires : tie.Need-refuse-requires
 refuse-requires c κs = search needs
 
 returns : tie.Need-returns
-returns c = refused-said (c .before .before .before .before .before .before .before .before .args .reply .now) (c .refuse .ensures) (call-bad-string _ _ _ _ _ (test-is (c .before .before .before .before .keeps-string-rule .ensures) (c .before .before .before .has-same-bit-count .ensures) (c .before .before .both .ensures) (not-true _ (c .before .if1 .taken))))
+returns c = refused-holder (c .before .before .before .before .before .before .before .before .args .reply .now) (c .refuse .ensures) (call-bad-string _ _ _ _ _ (test-is (c .before .before .before .before .keeps-string-rule .ensures) (c .before .before .before .has-same-bit-count .ensures) (c .before .before .both .ensures) (not-true _ (c .before .if1 .taken))))
 
 holder-is-sound-requires : tie.Need-holder-is-sound-requires
 holder-is-sound-requires c κs = search needs
@@ -45,7 +45,7 @@ refuse-requires-2 : tie.Need-refuse-requires-2
 refuse-requires-2 c κs = search needs
 
 returns-2 : tie.Need-returns-2
-returns-2 c = refused-said (c .before .before .before .before .before .before .before .before .before .before .before .before .args .reply .now) (c .refuse2 .ensures) (call-out-of-turn _ _ _ _ _ (string-kept (c .before .before .before .before .before)) (test-is (c .before .before .before .before .holder-is-sound .ensures) refl (c .before .before .both2 .ensures) (not-true _ (c .before .if2 .taken))))
+returns-2 c = refused-holder (c .before .before .before .before .before .before .before .before .before .before .before .before .args .reply .now) (c .refuse2 .ensures) (call-out-of-turn _ _ _ _ _ (string-kept (c .before .before .before .before .before)) (test-is (c .before .before .before .before .holder-is-sound .ensures) refl (c .before .before .both2 .ensures) (not-true _ (c .before .if2 .taken))))
 
 read-kind-requires : tie.Need-read-kind-requires
 read-kind-requires c κs = search needs
@@ -66,7 +66,7 @@ answer-kind-requires : tie.Need-answer-kind-requires
 answer-kind-requires c κs = let d = c .before .before .before .before .before in tests-able _ _ _ (string-kept (d .before .before .before .before)) (answer-left d)
 
 returns-3 : tie.Need-returns-3
-returns-3 c = let d = c .before .before .before .before .before in refused-said (c .before .before .before .before .before .before .before .before .before .before .before .before .before .before .before .before .args .reply .now) (c .refuse3 .ensures) (call-no-kind _ _ _ _ _ (string-kept (d .before .before .before .before)) (answer-left d) (c .before .before .before .before .read-kind .ensures) (c .before .before .e .given .1))
+returns-3 c = let d = c .before .before .before .before .before in refused-holder (c .before .before .before .before .before .before .before .before .before .before .before .before .before .before .before .before .args .reply .now) (c .refuse3 .ensures) (call-no-kind _ _ _ _ _ (string-kept (d .before .before .before .before)) (answer-left d) (c .before .before .before .before .read-kind .ensures) (c .before .before .e .given .1))
 
 same-length : tie.Need-same-length
 same-length c = search needs

@@ -6,7 +6,7 @@ use native.Mathlib.Omega.{arith}
 use lib.ListN.{length}
 use borrow.Author.Tests.{not-true, not-false}
 use Rattle.ends.specs.RebuilderCall.{awaits, given}
-use Rattle.ends.specs.RebuilderOutcome.{rooms}
+use Rattle.ends.specs.RebuilderOutcome.{capacities}
 use Rattle.ends.specs.code.RebuilderParts.{Due}
 use Rattle.ends.specs.laws.SoundParts.{sound-is}
 use Rattle.ends.specs.code.RebuilderCallLaws.{due, awaits-hears, hears-short, hears-long, taken-said, refused-said}
@@ -21,11 +21,11 @@ due-now c =
     let s = c .before .before .before .before .before .before .before in
     due (s .args .st) _ (s .args .q) _ _ (c .read-answer .result) (c .before .before .question-length .ensures) (c .before .question-kind .ensures) (c .read-answer .ensures .0) (s .pre .0) (s .pre .1) (pieces-held (s .args .st) _ (s .good .0)) (λ i. c .before .before .before .before .before .shared-slice-known2 .given i .fits) (c .read-answer .ensures .1)
 
-heard : (c : tie.After-read-answer) → let a = c .before .before .before .before .before .before .before .args in let r = rooms (length (a .string .now)) (a .rows) (length (a .question .now)) in
+heard : (c : tie.After-read-answer) → let a = c .before .before .before .before .before .before .before .args in let r = capacities (length (a .string .now)) (a .rows) (length (a .question .now)) in
     awaits (a .st) (a .y .now) (a .msg .now) r (some (a .q)) ≡ andThen (saidAnswer (a .msg .now) (c .before .before .question-length .result) (c .read-answer .result)) (given (a .st) (a .y .now) (a .msg .now) r)
 heard c =
     let a = c .before .before .before .before .before .before .before .args in
-    awaits-hears (a .st) _ (a .q) _ _ (c .read-answer .result) (c .before .before .question-length .ensures) (c .before .question-kind .ensures) (c .read-answer .ensures .0) (a .y .now) (rooms (length (a .string .now)) (a .rows) (length (a .question .now)))
+    awaits-hears (a .st) _ (a .q) _ _ (c .read-answer .result) (c .before .before .question-length .ensures) (c .before .question-kind .ensures) (c .read-answer .ensures .0) (a .y .now) (capacities (length (a .string .now)) (a .rows) (length (a .question .now)))
 
 question-length-requires : tie.Need-question-length-requires
 question-length-requires c κs = search needs
@@ -36,8 +36,8 @@ question-kind-requires c κs = search needs
 read-answer-requires : tie.Need-read-answer-requires
 read-answer-requires c κs = search needs
 
-has-answer-room-requires : tie.Need-has-answer-room-requires
-has-answer-room-requires c κs =
+is-enough-for-answer-requires : tie.Need-is-enough-for-answer-requires
+is-enough-for-answer-requires c κs =
     let s = c .before .before .before .before .before .before .before in
     let f = sound-is (s .args .st) (s .pre .0) .0 .limits .m-least in omega arith
 
@@ -47,12 +47,12 @@ refuse-requires c κs = search needs
 returns : tie.Need-returns
 returns c =
     let a = c .before .before .before .before .before .before .before .before .before .before .args in
-    refused-said (a .st) _ _ _ (c .refuse .ensures) (heard (c .before .before .before) ∙ hears-short (a .st) _ _ _ (due-now (c .before .before .before)) _ _ (sym (c .before .before .has-answer-room .ensures) ∙ not-true _ (c .before .if1 .taken)))
+    refused-said (a .st) _ _ _ (c .refuse .ensures) (heard (c .before .before .before) ∙ hears-short (a .st) _ _ _ (due-now (c .before .before .before)) _ _ (sym (c .before .before .is-enough-for-answer .ensures) ∙ not-true _ (c .before .if1 .taken)))
 
 take-requires : tie.Need-take-requires
 take-requires c κs =
     let s = c .before .before .before .before .before .before .before .before .before .before .before in
-    (due-now (c .before .before .before .before), ((s .args .rows, sym (c .before .before .before .has-answer-room .ensures) ∙ not-false _ (c .before .before .if1 .left)), s .pre .2))
+    (due-now (c .before .before .before .before), ((s .args .rows, sym (c .before .before .before .is-enough-for-answer .ensures) ∙ not-false _ (c .before .before .if1 .left)), s .pre .2))
 
 same-length : tie.Need-same-length
 same-length c = search needs
@@ -63,7 +63,7 @@ same-length-2 c = search needs
 returns-2 : tie.Need-returns-2
 returns-2 c =
     let a = c .before .before .before .before .before .before .before .before .before .before .before .before .before .before .before .before .args in
-    taken-said (a .st) _ _ (heard (c .before .before .before .before .before .before .before .before .before) ∙ hears-long (a .st) _ _ _ (due-now (c .before .before .before .before .before .before .before .before .before)) _ _ (sym (c .before .before .before .before .before .before .before .before .has-answer-room .ensures) ∙ not-false _ (c .before .before .before .before .before .before .before .if1 .left))) (c .before .before .before .before .take .ensures)
+    taken-said (a .st) _ _ (heard (c .before .before .before .before .before .before .before .before .before) ∙ hears-long (a .st) _ _ _ (due-now (c .before .before .before .before .before .before .before .before .before)) _ _ (sym (c .before .before .before .before .before .before .before .before .is-enough-for-answer .ensures) ∙ not-false _ (c .before .before .before .before .before .before .before .if1 .left))) (c .before .before .before .before .take .ensures)
 
 pub hear-spec : {M : Type 1} → statement M
 hear-spec =
@@ -72,7 +72,7 @@ hear-spec =
     question-length-requires
     question-kind-requires
     read-answer-requires
-    has-answer-room-requires
+    is-enough-for-answer-requires
     refuse-requires
     returns
     take-requires

@@ -9,7 +9,7 @@ use Rattle.messages.specs.declared.Question.{Question}
 use Rattle.ends.specs.Soundness.{sound}
 use Rattle.ends.specs.States.{planned}
 use Rattle.ends.specs.RebuilderCall.{awaits, rebuilderCall}
-use Rattle.ends.specs.RebuilderOutcome.{rooms}
+use Rattle.ends.specs.RebuilderOutcome.{capacities}
 use Rattle.ends.specs.code.SoundLaws.{sound-plans}
 use Rattle.strings.specs.laws.Tests.{test-is}
 use Rattle.ends.specs.code.RebuilderCodeLaws.{none-planned, some-planned}
@@ -26,7 +26,7 @@ state-sound : (c : tie.Else2) → sound (c .before .before .before .before .befo
 state-sound c = sym (c .before .rebuilder-is-sound .ensures) ∙ not-false _ (c .if2 .left)
 
 -- so the call is what is made of the question that waits
-awaited : (c : tie.Else2) {o : Option Question} → let a = c .before .before .before .before .before .before .before .before .before .before .args in let r = rooms (length (a .string .now)) (a .rows) (length (a .question .now)) in
+awaited : (c : tie.Else2) {o : Option Question} → let a = c .before .before .before .before .before .before .before .before .before .before .args in let r = capacities (length (a .string .now)) (a .rows) (length (a .question .now)) in
     planned (a .st) ≡ o → rebuilderCall (a .st) (a .y .now) (a .bits) (a .msg .now) r ≡ awaits (a .st) (a .y .now) (a .msg .now) r o
 awaited c = call-awaits _ _ _ _ _ (copy-kept (c .before .before)) (state-sound c)
 

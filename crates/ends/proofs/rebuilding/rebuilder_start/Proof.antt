@@ -4,7 +4,7 @@ use native.Mathlib.Omega.{arith}
 use borrow.Author.Tests.{not-true, not-false}
 use Rattle.strings.specs.StringRule.{stringRule}
 use Rattle.strings.specs.SettingLimits.{withinLimits}
-use Rattle.ends.specs.code.RebuilderCallLaws.{start-refused, start-bad-setting, start-bad-string, start-no-room, start-small, start-fits, start-begun}
+use Rattle.ends.specs.code.RebuilderCallLaws.{start-refused, start-bad-setting, start-bad-string, start-too-short, start-small, start-fits, start-begun}
 use borrow.Author.Needs.{needs}
 use Rattle.ends.proofs.rebuilding.rebuilder_start.Statement.{statement}
 use Rattle.ends.proofs.rebuilding.rebuilder_start.Tie as tie
@@ -44,7 +44,7 @@ not-begun-requires-3 c κs = search needs
 returns-3 : tie.Need-returns-3
 returns-3 c =
     let a = c .before .before .before .before .before .before .before .before .args in
-    start-refused (a .settings) (a .y .now) (a .bits) (a .question .now) _ (c .not-begun3 .ensures) (start-no-room (a .settings) (a .y .now) (a .bits) (a .question .now) (limits-kept (c .before .before .before .before)) (string-kept (c .before .before)) (c .before .if3 .taken))
+    start-refused (a .settings) (a .y .now) (a .bits) (a .question .now) _ (c .not-begun3 .ensures) (start-too-short (a .settings) (a .y .now) (a .bits) (a .question .now) (limits-kept (c .before .before .before .before)) (string-kept (c .before .before)) (c .before .if3 .taken))
 
 write-question-requires : tie.Need-write-question-requires
 write-question-requires c κs = search needs

@@ -4,9 +4,9 @@ use Prim.Native.Nat.{_≤_}
 use native.Mathlib.Omega.{arith}
 use lib.ListN.{length}
 use Rattle.messages.specs.declared.AnswerRead.{AnswerRead}
-use Rattle.ends.specs.RebuilderOutcome.{RebuilderSaid, leavesRebuilder, rooms}
-use Rattle.ends.specs.code.RebuilderParts.{answerRoom, heardStep}
-use Rattle.ends.specs.code.RebuilderCallLaws.{heard-size, heard-hash, heard-syndrome, heard-bits, bits-inside, bits-long, bits-said, read-said, enough-for, room-enough, room-bits, acting-small, whole-small, refused-said}
+use Rattle.ends.specs.RebuilderOutcome.{RebuilderSaid, leavesRebuilder, capacities}
+use Rattle.ends.specs.code.RebuilderParts.{enoughForAnswer, heardStep}
+use Rattle.ends.specs.code.RebuilderCallLaws.{heard-size, heard-hash, heard-syndrome, heard-bits, bits-inside, bits-long, bits-said, read-said, enough-for, enough-is, enough-bits, acting-small, whole-small, refused-said}
 use borrow.Author.Needs.{needs}
 use Rattle.ends.proofs.rebuilding.take.Statement.{statement}
 use Rattle.ends.proofs.rebuilding.take.Tie as tie
@@ -14,10 +14,10 @@ use Rattle.ends.proofs.rebuilding.take.Tie as tie
 abbrev start : tie.After-slice-known2 → tie.Start
 start c = c .before .before .before .before
 
--- the answer that was read has room
-room-left : (s : tie.Start) {b : AnswerRead} → let a = s .args in
-    a .read ≡ b → answerRoom (a .st) (rooms (length (a .string .now)) (s .pre .1 .0 .0) (length (a .question .now))) b ≡ true
-room-left s e = enough-for (s .args .st) _ _ _ (s .pre .0) _ (s .pre .1 .0 .1) e
+-- the answer that was read has capacity
+enough-left : (s : tie.Start) {b : AnswerRead} → let a = s .args in
+    a .read ≡ b → enoughForAnswer (a .st) (capacities (length (a .string .now)) (s .pre .1 .0 .0) (length (a .question .now))) b ≡ true
+enough-left s e = enough-for (s .args .st) _ _ _ (s .pre .0) _ (s .pre .1 .0 .1) e
 
 -- and what is done with it is what the call leaves
 said : (s : tie.Start) {b : AnswerRead} {x : RebuilderSaid} → let a = s .args in let after : AnswerRead → RebuilderSaid = λ z. leavesRebuilder (a .st) (a .string .now) (a .question .now) (heardStep (a .st) (a .y .now) (a .msg .now) (a .len) z) in
@@ -40,7 +40,7 @@ take-size-requires : tie.Need-take-size-requires
 take-size-requires c κs =
     let s = start (c .before .before .before .before .before) in
     let e = c .before .before .before .read2 .given .1 in
-    let r = room-enough (s .args .st) _ _ (room-left s e) in
+    let r = enough-is (s .args .st) _ _ (enough-left s e) in
     (heard-size (s .args .st) _ _ _ (s .pre .0) _ e _ (r .1), r .0)
 
 enum-known-read-3 : tie.Need-enum-known-read-3
@@ -56,9 +56,9 @@ take-hash-requires : tie.Need-take-hash-requires
 take-hash-requires c κs =
     let s = start (c .before .before .before .before .before) in
     let e = c .before .before .before .read3 .given .1 in
-    let r = room-enough (s .args .st) _ _ (room-left s e) in
+    let r = enough-is (s .args .st) _ _ (enough-left s e) in
     let h = heard-hash (s .args .st) _ _ _ (s .pre .0) _ e _ (r .1) in
-    (h .0, (record { copy = s .pre .1 .1; text = room-bits _ _ (r .0) }, h .1))
+    (h .0, (record { copy = s .pre .1 .1; text = enough-bits _ _ (r .0) }, h .1))
 
 enum-known-read-4 : tie.Need-enum-known-read-4
 enum-known-read-4 c = search needs
@@ -73,9 +73,9 @@ take-syndrome-requires : tie.Need-take-syndrome-requires
 take-syndrome-requires c κs =
     let s = start (c .before .before .before .before .before) in
     let e = c .before .before .before .read4 .given .1 in
-    let r = room-enough (s .args .st) _ _ (room-left s e) in
+    let r = enough-is (s .args .st) _ _ (enough-left s e) in
     let h = heard-syndrome (s .args .st) _ _ _ (s .pre .0) _ _ e _ (r .1) in
-    (h .0, (record { copy = s .pre .1 .1; text = room-bits _ _ (r .0) }, h .1))
+    (h .0, (record { copy = s .pre .1 .1; text = enough-bits _ _ (r .0) }, h .1))
 
 enum-known-read-5 : tie.Need-enum-known-read-5
 enum-known-read-5 c = search needs
@@ -99,8 +99,8 @@ take-bits-requires : tie.Need-take-bits-requires
 take-bits-requires c κs =
     let s = start (c .before .before .before .before .before .before) in
     let e = c .before .before .before .before .read5 .given .1 in
-    let r = room-enough (s .args .st) _ _ (room-left s e) in
-    (heard-bits (s .args .st) _ _ _ (s .pre .0) _ e _ (r .1) .0, (record { copy = s .pre .1 .1; text = room-bits _ _ (r .0) }, bits-long (s .args .st) _ _ _ (s .pre .0) _ e))
+    let r = enough-is (s .args .st) _ _ (enough-left s e) in
+    (heard-bits (s .args .st) _ _ _ (s .pre .0) _ e _ (r .1) .0, (record { copy = s .pre .1 .1; text = enough-bits _ _ (r .0) }, bits-long (s .args .st) _ _ _ (s .pre .0) _ e))
 
 returns : tie.Need-returns
 returns c =

@@ -52,7 +52,7 @@ use Rattle.ends.proofs.Rebuilder.Laws as R′
 use Rattle.ends.proofs.SheetChange as E
 use Rattle.ends.proofs.SheetChange.Laws as E′
 use Rattle.ends.specs.declared.rebuilding.RebuilderOut.{RebuilderOut}
-use Rattle.ends.specs.RebuilderOutcome.{saidRebuilder, leavesRebuilder, rooms}
+use Rattle.ends.specs.RebuilderOutcome.{saidRebuilder, leavesRebuilder, capacities}
 use Rattle.ends.specs.code.SheetCallLaws.{change-fits, left-on-sheet}
 use Rattle.ends.specs.laws.Delivery.{sheet-length-after}
 use Rattle.ends.proofs.rebuilding.RebuilderOut as O
@@ -173,7 +173,7 @@ module _ {M : Type 1} (𝓤 : URA M) (H : Heap 𝓤) (A : Atoms 𝓤) (W : Given
 
   -- what the core says
   abbrev Said : RebuilderOut → (string′ question′ : List ℕ) → Type 0
-  Said r string′ question′ = saidRebuilder r string′ question′ ≡ leavesRebuilder st string question (rebuilderCall st y bits msg (rooms (length string) (length rows) (length question)))
+  Said r string′ question′ = saidRebuilder r string′ question′ ≡ leavesRebuilder st string question (rebuilderCall st y bits msg (capacities (length string) (length rows) (length question)))
 
   core-goes : ent 𝓤 (⋆ 𝓤 H A (core-tokens ∷ ‵ (owns core-types core-args core-vals) ∷ [])) (Core 𝓤 H A mem run .pre to-core)
   core-goes = qed W (core-tokens ∷ ‵ (owns core-types core-args core-vals) ∷ []) ∵ join ! $ frame ! $ done !
@@ -219,7 +219,7 @@ module _ {M : Type 1} (𝓤 : URA M) (H : Heap 𝓤) (A : Atoms 𝓤) (W : Given
         qed W (‵ (flft κ₂ q₂) ∷ ‵ (finally T.the-row sheet-name (sheetAfter rows (r .sheet))) ∷ core-tokens ∷ ‵ (finally u8 question-name question′) ∷ ‵ (finally u8 string-name string′) ∷ ‵ Y ∷ ‵ Msg ∷ []) ∵
         suffices ! _ (ends-at 𝓤 H A on-sheet.ended stayed (on-sheet.clauses 𝓤 H A mem run) W bound (out-val r) r (tt, (tt, (tt, (tt, (sheetAfter rows (r .sheet), (string′, (question′, tt)))))))
         (tt, (tt, (tt, (tt, (sheet-length-after rows (r .sheet), (string-same, (question-same, tt)))))))) $
-        says ! (left-on-sheet st y bits msg (rooms (length string) (length rows) (length question)) string question string′ question′ r said rows (sheetAfter rows (r .sheet)) refl) $
+        says ! (left-on-sheet st y bits msg (capacities (length string) (length rows) (length question)) string question string′ question′ r said rows (sheetAfter rows (r .sheet)) refl) $
         -- the tokens, with κ₂'s among them
         move ! (2 ∷ []) $ split ! $ move ! (1 ∷ []) $ split ! $ move ! (3 ∷ 1 ∷ []) $ join ! $ move ! (1 ∷ 0 ∷ []) $ join ! $ move ! (1 ∷ 0 ∷ []) $ join ! $ frame ! $
         -- [the sheet's last rows; the question's and the string's last bytes; Y; the message]
@@ -251,7 +251,7 @@ module _ {M : Type 1} (𝓤 : URA M) (H : Heap 𝓤) (A : Atoms 𝓤) (W : Given
         assigns ! (addr ! (from ! (fld ! refl (hop ! (look-in ! 31 (sub ! 0 refl (whole !))) (stop !))))) (from ! (stop !)) (init ! 9 refl (tt, tt)) $
         assigns ! (agg ! (and-then ! (load ! (from ! (stop !)) (look ! 9 refl)) (and-then ! (load ! (from ! (fld ! refl (stop !))) (look-in ! 31 (sub ! 1 refl (whole !)))) (no-more !)))) (from ! (stop !)) (init ! 7 refl (tt, (tt, (record { fits = room .0 }, tt)))) $
         move ! (6 ∷ 5 ∷ []) $ use2 W (raw (ApplyChange 𝓤 H A mem run .pre (to-apply (r .sheet))))
-        (apply-goes (r .sheet) (change-is r is) (change-fits st y bits msg (rooms (length string) (length rows) (length question)) string question string′ question′ r said)) $
+        (apply-goes (r .sheet) (change-is r is) (change-fits st y bits msg (capacities (length string) (length rows) (length question)) string question string′ question′ r said)) $
         calls-at ! fm (ApplyChange 𝓤 H A mem run) known-apply (to-apply (r .sheet)) (and-then ! (load ! (from ! (stop !)) (look ! 6 refl)) (and-then ! (load ! (from ! (stop !)) (look ! 22 refl)) (no-more !))) (λ w.
         use1 W (later (given (w ≡ vunit) (‵ (flft κ₂ q₂) ⊛ ‵ (finally T.the-row sheet-name (sheetAfter rows (r .sheet)))))) (apply-came (r .sheet) w) $ await ! tt $ learn ! (λ e. split ! $
         -- [κ₂'s token; the sheet's last rows; the core's tokens; the last bytes; Y; the message; the locals]

@@ -4,7 +4,7 @@ use Prim.Native.Nat.{_+_, _-_, _*_, _≤_}
 use native.Mathlib.Omega.{arith}
 use lib.Seq.{sets}
 use Rattle.layout.specs.Layout.{piecesAt, rebuilderOf}
-use Rattle.layout.specs.laws.LayoutLaws.{withPieces, read-start, read-turn, read-end}
+use Rattle.layout.specs.laws.LayoutLaws.{withPieces, read-start, read-turn, rest-read}
 use Rattle.layout.proofs.state.read_rebuilder.Statement.{statement}
 use Rattle.layout.proofs.state.read_rebuilder.Tie as tie
 
@@ -47,7 +47,7 @@ loop-again c =
     (omega arith, read-turn (l .st) (c .before .before .before .before .before .args .s .now) _ (l .i) (c .read-piece .result) (c .before .loop-test .taken) (c .read-piece .ensures) (l .inv .1))
 
 returns : tie.Need-returns Inv-loop μ-loop
-returns c = let l = c .before .loop in read-end (l .st) _ _ (l .i) (c .loop-test .left) (l .inv .1)
+returns c = let l = c .before .loop in rest-read (l .st) _ _ (l .i) (c .loop-test .left) (l .inv .1)
 
 pub read-rebuilder-spec : {M : Type 1} → statement M
 read-rebuilder-spec =

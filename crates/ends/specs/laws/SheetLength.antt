@@ -10,7 +10,7 @@ use borrow.Author.Tests.{leb-true}
 use Rattle.strings.specs.Bits.{bytesFor, range}
 use Rattle.strings.specs.laws.Tests.{and-left, and-right}
 use Rattle.ends.specs.laws.Asking.{TakenCall, taken-call}
-use Rattle.ends.specs.RebuilderCall.{Rooms, Step, bitsKnown, effectStep, openingStep, rebuilderCall, roomFor, rowsNeeded, stepOf, takes, wholeStep}
+use Rattle.ends.specs.RebuilderCall.{Capacities, Step, bitsKnown, effectStep, openingStep, rebuilderCall, enoughFor, rowsNeeded, stepOf, takes, wholeStep}
 use Rattle.ends.specs.Segments.{Effect, effect, settles, splits, stays}
 use Rattle.messages.specs.Answers.{Answer}
 use Rattle.ends.specs.laws.SoundParts.{PhaseOf, isOpening, isPieces, isWhole, phase-of, sound-is}
@@ -21,7 +21,7 @@ use Rattle.ends.specs.declared.Piece.{Piece}
 use Rattle.ends.specs.declared.Rebuilder.{Rebuilder}
 use Rattle.ends.specs.declared.Phase.the-variants.{AtPieces, AtWhole}
 
--- waiting pieces leave room for a row
+-- while pieces wait one row more fits the sheet
 rows-some : (m w : ℕ) (l : List Piece) → 0 < w → 1 ≤ rowsLeft m (held w l)
 unfolding rowsLeft
 rows-some m zero l h = absurd (omega arith)
@@ -39,23 +39,23 @@ known-pieces st a e = rw e refl
 known-whole : (st : Rebuilder) (a : Answer) → st .phase ≡ AtWhole → bitsKnown st a ≡ st .n
 known-whole st a e = rw e refl
 
-module _ (st : Rebuilder) (y : List ℕ) (bits : ℕ) (msg : List ℕ) (rooms : Rooms) (step : Step) (next : List ℕ) (e : rebuilderCall st y bits msg rooms ≡ takes step next) where
-  sheet-room : (n : ℕ) → roomFor st n rooms ≡ true → 2 * (n / st .settings .m) + 1 ≤ rooms .sheet
-  sheet-room n r =
-      leb-true (2 * (n / st .settings .m) + 1) (rooms .sheet)
-      (and-left (leb (2 * (n / st .settings .m) + 1) (rooms .sheet)) (leb 8 (rooms .question))
-      (and-right (leb (bytesFor n) (rooms .string)) (leb (2 * (n / st .settings .m) + 1) (rooms .sheet) && leb 8 (rooms .question)) r))
+module _ (st : Rebuilder) (y : List ℕ) (bits : ℕ) (msg : List ℕ) (capacities : Capacities) (step : Step) (next : List ℕ) (e : rebuilderCall st y bits msg capacities ≡ takes step next) where
+  sheet-length : (n : ℕ) → enoughFor st n capacities ≡ true → 2 * (n / st .settings .m) + 1 ≤ capacities .sheet
+  sheet-length n r =
+      leb-true (2 * (n / st .settings .m) + 1) (capacities .sheet)
+      (and-left (leb (2 * (n / st .settings .m) + 1) (capacities .sheet)) (leb 8 (capacities .question))
+      (and-right (leb (bytesFor n) (capacities .string)) (leb (2 * (n / st .settings .m) + 1) (capacities .sheet) && leb 8 (capacities .question)) r))
 
-  pub taken-rows : rowsNeeded (step .sheet) ≤ rooms .sheet
+  pub taken-rows : rowsNeeded (step .sheet) ≤ capacities .sheet
   taken-rows = rw (k .steps) (go (phase-of st (k .q) (sound-is st (k .sound-before) .1) (k .asked)))
     where
-      k : TakenCall st y msg rooms step next
-      k = taken-call st y bits msg rooms step next e
+      k : TakenCall st y msg capacities step next
+      k = taken-call st y bits msg capacities step next e
 
-      later : bitsKnown st (k .a) ≡ st .n → 2 * (st .n / st .settings .m) + 1 ≤ rooms .sheet
-      later h = sheet-room (st .n) (rw h at (k .room))
+      later : bitsKnown st (k .a) ≡ st .n → 2 * (st .n / st .settings .m) + 1 ≤ capacities .sheet
+      later h = sheet-length (st .n) (rw h at (k .capacity))
 
-      go : PhaseOf st (k .q) → rowsNeeded (stepOf st y (length msg) (k .a) .sheet) ≤ rooms .sheet
+      go : PhaseOf st (k .q) → rowsNeeded (stepOf st y (length msg) (k .a) .sheet) ≤ capacities .sheet
       go (isOpening p i d) = rw (step-opening st y (length msg) (k .a) p) (unfold openingStep in omega arith)
       go (isPieces p i w d) =
           let f : Effect = effect (st .settings) (k .a) (top st .p) (range y (top st .y) (top st .q)) (st .stage) in

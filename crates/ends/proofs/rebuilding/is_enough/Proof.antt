@@ -5,8 +5,8 @@ use lib.Dec.{leb}
 use Rattle.strings.specs.Bits.{bytesFor}
 use native.Mathlib.Nat.{div-le-self}
 use borrow.Author.Needs.{needs}
-use Rattle.ends.proofs.rebuilding.has_room.Statement.{statement}
-use Rattle.ends.proofs.rebuilding.has_room.Tie as tie
+use Rattle.ends.proofs.rebuilding.is_enough.Statement.{statement}
+use Rattle.ends.proofs.rebuilding.is_enough.Tie as tie
 
 div-most : tie.Need-div-most
 div-most c = search needs
@@ -29,6 +29,6 @@ both-requires-2 c κs = search needs
 returns : tie.Need-returns
 returns c = c .both2 .ensures ∙ ap (λ (z : Bool). leb (bytesFor (c .before .before .args .n)) (c .before .before .args .string) && z) (c .before .both .ensures)
 
-pub has-room-spec : {M : Type 1} → statement M
-has-room-spec =
+pub is-enough-spec : {M : Type 1} → statement M
+is-enough-spec =
     tie.close (tie.spec div-most mul-most add-most add-both both-requires both-requires-2 returns)
