@@ -14,8 +14,8 @@
  * States. The buffer has at least LO_HOLDER_BYTES or LO_REBUILDER_BYTES bytes. Each function reads
  * and writes the first LO_HOLDER_BYTES or LO_REBUILDER_BYTES of them and leaves later bytes as they
  * were. A shorter buffer gets 9 from lo_holder_fresh and lo_rebuilder_start, which make a state,
- * and 3 from the two calls, as do bytes with a number for opened, phase or stage that is none of
- * those listed below.
+ * and 3 from the two calls. These also give 3 for bytes that no state has: those with a number for
+ * opened, phase or stage that is none of those listed below.
  *
  * Threads. The library has no global state. Calls on different states may run at the same time;
  * slices that are only read (X, Y, messages) may be lent to several of them.
@@ -40,7 +40,7 @@ extern "C" {
 /* Refusals */
 #define LO_BAD_SETTING 1      /* a setting handed in is outside its limits */
 #define LO_BAD_STRING 2       /* a string breaks the string rule, or has another bit count than at
-                                 opening */
+                                 the holder's opening or the rebuilder's start */
 #define LO_OUT_OF_TURN 3      /* finished; answers spent; an opening wanted, or not wanted; or the
                                  state is unsound, its bytes are no state's or too few for one */
 #define LO_TRUNCATED 4        /* the message ends inside its kind, a field or its bits */
@@ -140,17 +140,18 @@ uint64_t lo_holder_fresh(uint8_t *state, size_t state_len);
 /* The holder's call: answers the question msg on X. Value: the reply's length; the reply is in the
  * first bytes of reply, later bytes are as they were, and the first LO_HOLDER_BYTES bytes of state
  * hold the next state.
- * Refusals 2; 3 (state unsound or shorter than LO_HOLDER_BYTES, answers spent); then as the message
- * is read from left to right 4, 5, 6, or 3 for a known kind out of turn; 7; 8; 9 (reply_len below
- * the reply's length). */
+ * Refusals 2 (x breaks the string rule); 3 (state shorter than LO_HOLDER_BYTES, bytes that no state
+ * has); 2 (another bit count than at the opening); 3 (state unsound, answers spent); then as the
+ * message is read from left to right 4, 5, 6, or 3 for a known kind out of turn; 7; 8; 9 (reply_len
+ * below the reply's length). */
 uint64_t lo_holder_answer(uint8_t *state, size_t state_len,
                           const uint8_t *x, size_t x_len, size_t bits,
                           const uint8_t *msg, size_t msg_len,
                           uint8_t *reply, size_t reply_len);
 
 /* The rebuilder's start under the settings m, h, k, key, ceiling. Value: the first question's
- * length; the question is in the first bytes of question, and the first LO_REBUILDER_BYTES bytes
- * of state hold the state.
+ * length; the question is in the first bytes of question, later bytes are as they were, and the
+ * first LO_REBUILDER_BYTES bytes of state hold the state.
  * Refusals 1 (m not 8 to 64, h not 8 to 32, k not 1 to 8, key 0, ceiling above 16,384); 2; 9
  * (question shorter than LO_QUESTION_BYTES, state shorter than LO_REBUILDER_BYTES). */
 uint64_t lo_rebuilder_start(uint32_t m, uint32_t h, uint32_t k, uint32_t key, uint32_t ceiling,
@@ -168,9 +169,10 @@ uint64_t lo_rebuilder_start(uint32_t m, uint32_t h, uint32_t k, uint32_t key, ui
  * is not known: make string and sheet for LO_MAX_BITS bits, or enlarge them on refusal 9 and call
  * again with the same message, since a refused call changed nothing. sheet_len counts bytes; a rest
  * below LO_ROW_BYTES is no row.
- * Refusals 2; 3 (state unsound or shorter than LO_REBUILDER_BYTES, finished); then as the message
- * is read from left to right 4, 5, 6; 7; 8; 9 (question shorter than LO_QUESTION_BYTES, string
- * shorter than LO_STRING_BYTES(n), sheet of fewer than LO_SHEET_ROWS(n, m) rows). */
+ * Refusals 2 (y breaks the string rule); 3 (state shorter than LO_REBUILDER_BYTES, bytes that no
+ * state has); 2 (another bit count than at the start); 3 (state unsound, finished); then as the
+ * message is read from left to right 4, 5, 6; 7; 8; 9 (question shorter than LO_QUESTION_BYTES,
+ * string shorter than LO_STRING_BYTES(n), sheet of fewer than LO_SHEET_ROWS(n, m) rows). */
 uint64_t lo_rebuilder_call(uint8_t *state, size_t state_len,
                            const uint8_t *y, size_t y_len, size_t bits,
                            uint8_t *string, size_t string_len,
