@@ -2,7 +2,8 @@
 //!
 //! A holder has a reference X, a rebuilder a copy Y that differs from X by insertions, deletions
 //! and substitutions of bits. The rebuilder asks short questions, the holder answers them, and
-//! in the end the rebuilder has X. Carrying the messages is the host's part.
+//! in the end the rebuilder has X, except in settled pieces that differ from X's and yet share
+//! length and hash (and syndrome, if used) with them. Carrying the messages is the host's part.
 //!
 //! ```
 //! use lunetteorris::{BitString, Holder, Rebuilder, Settings};
@@ -71,12 +72,12 @@ pub const fn sheet_rows(n: usize, m: usize) -> usize {
 }
 
 /// The C interface on slices. Results are packed, see [`pack`] and [`unpack`]. On a refusal
-/// nothing is written.
+/// nothing is written. Where several refusals apply, the order in `include/lunetteorris.h` decides.
 ///
 /// A state's buffer has at least [`HOLDER_BYTES`] or [`REBUILDER_BYTES`] bytes: the functions read
 /// and write so many of its first bytes and leave later ones alone. A shorter buffer gets 9 where a
-/// state is made and 3 in the two calls. Fields are read from a state's bytes at the offsets in
-/// [`layout`].
+/// state is made and 3 in the two calls, as do bytes that no state has. Fields are read from a
+/// state's bytes at the offsets in [`layout`].
 ///
 /// A rebuilder's `string` and `sheet` are needed from the call with the opening's answer on, for
 /// the reference's n bits: `n.div_ceil(8)` bytes and [`sheet_rows`] rows of [`ROW_BYTES`] bytes.
