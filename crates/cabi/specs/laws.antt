@@ -4,3 +4,5 @@ pub mod HolderBytesLaws
 pub mod RebuilderBytesLaws
 pub mod CarriedLaws
 pub mod KeptLaws
+pub mod ByteWorldLaws
+pub mod OnBytes

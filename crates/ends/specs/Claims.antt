@@ -1,4 +1,4 @@
--- What demand 3 claims of pieces, bits and rows; Worlds has the claim itself.
+-- What demand 3 claims of pieces, bits and rows; Statement has the claim itself.
 use mathlib.Core.Path.{_≡_}
 use mathlib.Core.Bool.{Bool, false, cond, _&&_}
 use mathlib.Core.List.{List, [], _∷_, _++_}
@@ -10,9 +10,8 @@ use Rattle.codes.specs.Repair.{Deletion}
 use Rattle.codes.specs.Syndrome.{syndrome}
 use Rattle.ends.specs.Segments.{Segment, dropped, settled, span, waiting, hashOf}
 use Rattle.ends.specs.Anchors.{part}
-use Rattle.ends.specs.Runs.{Run, opening, working, whole, run, piecesOf, sheetOf, string}
+use Rattle.ends.specs.Runs.{Run, opening, working, whole, question, answerFor, continued, piecesOf, sheetOf, string}
 use Rattle.ends.specs.RebuilderCall.{noRow}
-use Rattle.messages.specs.Answers.{Answer}
 use Rattle.ends.specs.declared.Row.{Row}
 use Rattle.strings.specs.declared.settings.Settings.{Settings}
 use Rattle.ends.specs.declared.How.{How}
@@ -91,7 +90,10 @@ zeroedNext opening = 0
 zeroedNext (working n c segs rows) = 0
 zeroedNext (whole n c segs rows) = length rows - 1
 
--- how many the last of the answers taken set to zeros
-abbrev pub zeroed : Settings → (Y : List Bool) → List Answer → ℕ
-zeroed S Y [] = 0
-zeroed S Y (a ∷ l) = zeroedNext (run S Y l)
+-- how many the messages of a run set to zeros: the whole string's answer is the last
+abbrev pub zeroedFrom : Settings → List Bool → Run → List (List ℕ) → ℕ
+zeroedFrom S Y s [] = 0
+zeroedFrom S Y s (m ∷ ms) = zeroedNext s + zeroedFrom S Y (continued S Y s (answerFor S (question S s) m)) ms
+
+abbrev pub zeroed : Settings → List Bool → List (List ℕ) → ℕ
+zeroed S Y ms = zeroedFrom S Y opening ms

@@ -12,8 +12,8 @@ use Rattle.strings.specs.Results.{Result, refusal, value, unless, andThen}
 use Rattle.strings.specs.Refusals.{refusalNumber}
 use Rattle.strings.specs.declared.Refusal.the-variants.{BadSetting, BadString, OutOfTurn, BufferTooShort}
 use Rattle.messages.specs.declared.Question.{Question}
-use Rattle.messages.specs.declared.Question.the-variants.{AskOpen, AskHash, AskSyndrome, AskBits}
-use Rattle.messages.specs.Questions.{questionKind, questionBytes}
+use Rattle.messages.specs.declared.Question.the-variants.{AskOpen}
+use Rattle.messages.specs.Questions.{questionKind, questionLength, questionBytes}
 use Rattle.messages.specs.Answers.{Answer, readAnswer}
 use Rattle.strings.specs.declared.settings.Settings.{Settings}
 use Rattle.ends.specs.declared.How.the-variants.{ByAnchor, ByBits}
@@ -80,6 +80,12 @@ abbrev pub sheetAfter : List Row → SheetChange → List Row
 sheetAfter sh NoRow = sh
 sheetAfter sh (AddRow i r) = sets sh i (r ∷ [])
 sheetAfter sh (OneRow used r) = sets sh 0 (r ∷ replicate (used - 1) noRow)
+
+-- the row that a change stores
+abbrev pub changeRow : SheetChange → Row
+changeRow NoRow = noRow
+changeRow (AddRow i r) = r
+changeRow (OneRow used r) = r
 
 -- how many rows a sheet needs for a change
 abbrev pub rowsNeeded : SheetChange → ℕ
@@ -189,13 +195,6 @@ takes k q = value (record { step = k; question = q })
 abbrev pub writtenQuestion : Option Question → List ℕ
 writtenQuestion none = []
 writtenQuestion (some q) = questionBytes q
-
--- the length of the bits that a question asks about
-abbrev pub questionLength : Question → ℕ
-questionLength (AskOpen h key) = 0
-questionLength (AskHash x p) = p
-questionLength (AskSyndrome x p) = p
-questionLength (AskBits x p) = p
 
 -- lent bytes of the string buffer and the question buffer, and rows of the sheet
 pub record Capacities : Type 0 where

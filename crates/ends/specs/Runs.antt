@@ -1,8 +1,7 @@
 -- 01, "The rebuilder": a run, from n, Y, the settings and the answers taken.
-use mathlib.Core.Path.{_≡_}
 use mathlib.Core.Bool.{Bool, false, cond, _&&_}
 use mathlib.Core.List.{List, [], _∷_, _++_}
-use mathlib.Core.Option.{Option, some}
+use mathlib.Core.Option.{Option, none, some}
 use Prim.Native.Nat.{ℕ, zero, suc, _+_, _/_}
 use lib.ListN.{length}
 use lib.Dec.{ltb}
@@ -10,7 +9,11 @@ use Rattle.codes.specs.Syndrome.{syndrome}
 use Rattle.codes.specs.Hash.{hash}
 use Rattle.messages.specs.declared.Question.{Question}
 use Rattle.messages.specs.declared.Question.the-variants.{AskOpen, AskHash, AskSyndrome, AskBits}
-use Rattle.messages.specs.Answers.{Answer, sizeAnswer, hashAnswer, syndromeAnswer, bitsAnswer, answerBytes}
+use Rattle.messages.specs.Answers.{Answer, sizeAnswer, hashAnswer, syndromeAnswer, bitsAnswer, answerBytes, readAnswer}
+use Rattle.messages.specs.Questions.{questionKind, questionLength}
+use Rattle.strings.specs.Results.{Result, refusal, value}
+use Rattle.strings.specs.Refusals.{refusalNumber}
+use Rattle.strings.specs.declared.Refusal.the-variants.{OutOfTurn}
 use Rattle.strings.specs.declared.settings.Settings.{Settings}
 use Rattle.ends.specs.declared.How.the-variants.{ByBits}
 use Rattle.ends.specs.declared.Row.{Row}
@@ -58,15 +61,23 @@ advance S Y opening a = working (theSize a) 0 (begin S (theSize a) Y ∷ []) []
 advance S Y (working n c segs rows) a = judge S n (c + sizeOf a) (step S a segs) (rows ++ newRows S a 0 segs)
 advance S Y (whole n c segs rows) a = working n (c + sizeOf a) (settled ByBits Y (theBits a) ∷ []) (row 0 n ByBits ∷ [])
 
--- the run that the answers make; the list has the last one first
-abbrev pub run : Settings → List Bool → List Answer → Run
-run S Y [] = opening
-run S Y (a ∷ l) = advance S Y (run S Y l) a
+-- a message, read as the answer to the question that waits; after the finish there is none
+abbrev pub answerFor : Settings → Option Question → List ℕ → Result Answer
+answerFor S none m = refusal (refusalNumber OutOfTurn)
+answerFor S (some q) m = readAnswer (questionKind q) (questionLength q) (S .h) m
 
--- each answer is the holder's to the question that then waited, under the rebuilder's own opening
-abbrev pub Honest : Settings → (X Y : List Bool) → List Answer → Type 0
-Honest S X Y [] = Unit {0}
-Honest S X Y (a ∷ l) = Honest S X Y l × ((q : Question) × (question S (run S Y l) ≡ some q) × (a ≡ honestAnswer S X q))
+-- after one message more; what is no answer makes nothing
+abbrev pub continued : Settings → List Bool → Run → Result Answer → Run
+continued S Y s (refusal number) = s
+continued S Y s (value a) = advance S Y s a
+
+-- the run that messages make, from the first one to the last
+abbrev pub runFrom : Settings → List Bool → Run → List (List ℕ) → Run
+runFrom S Y s [] = s
+runFrom S Y s (m ∷ ms) = runFrom S Y (continued S Y s (answerFor S (question S s) m)) ms
+
+abbrev pub run : Settings → List Bool → List (List ℕ) → Run
+run S Y ms = runFrom S Y opening ms
 
 -- ---- what a run has
 abbrev pub piecesOf : Run → List Segment

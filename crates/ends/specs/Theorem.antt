@@ -1,6 +1,6 @@
--- 01, demand 3, as a theorem, and that runs end. Worlds has the claims; what leads to them is in laws/.
-use Rattle.ends.specs.Worlds.{DemandThree, RunsEnd}
-use Rattle.ends.specs.laws.CallLists.{all-lists}
+-- 01, demand 3, as a theorem, and that runs end. Statement has the claims; what leads to them is in laws/.
+use Rattle.ends.specs.Statement.{DemandThree, RunsEnd}
+use Rattle.ends.specs.laws.Claimed.{all-lists}
 use Rattle.ends.specs.laws.RunEnds.{all-end}
 
 pub demand3 : DemandThree

@@ -19,5 +19,8 @@ pub mod Asking
 pub mod SheetLength
 pub mod HolderLaws
 pub mod Delivery
+pub mod RunLaws
 pub mod CallLists
+pub mod Claimed
 pub mod RunEnds
+pub mod RefusedLaws

@@ -22,6 +22,13 @@ questionKind (AskHash start len) = Hash
 questionKind (AskSyndrome start len) = Syndrome
 questionKind (AskBits start len) = Bits
 
+-- the length of the bits that a question asks about
+abbrev pub questionLength : Question → ℕ
+questionLength (AskOpen h key) = 0
+questionLength (AskHash start len) = len
+questionLength (AskSyndrome start len) = len
+questionLength (AskBits start len) = len
+
 -- the question of a kind with its two fields
 abbrev pub asking : Kind → ℕ → ℕ → Question
 asking Open a b = AskOpen a b

@@ -4,3 +4,4 @@ pub mod KindLaws
 pub mod QuestionLaws
 pub mod AnswerLaws
 pub mod WritingLaws
+pub mod RefusalLaws

@@ -75,6 +75,10 @@ sameBits [] (b ∷ m) = false
 sameBits (a ∷ l) [] = false
 sameBits (a ∷ l) (b ∷ m) = cond (differs a b) false (sameBits l m)
 
+-- every element is a byte, as of what a slice of u8 holds
+abbrev pub Bytes : List ℕ → Type 0
+Bytes s = (i : ℕ) → getD s i 0 < 256
+
 -- the len bits from bit start on are bits of s, and lie within what a string can hold
 pub record Part (s : List ℕ) (start len : ℕ) : Type 0 where
   pub there : start + len ≤ 8 * length s

@@ -9,7 +9,7 @@ use native.Mathlib.Decide.{ℕ-discrete, decLt}
 use lib.ListN.{length, getD, List·getD-eq-default}
 use lib.Dec.{leb, eqb}
 use Rattle.strings.specs.Bits.{maxBits}
-use Rattle.strings.specs.laws.PackLaws.{Bytes}
+use Rattle.strings.specs.Bits.{Bytes}
 use Rattle.strings.specs.StringRule.{stringRule}
 use Rattle.strings.specs.laws.RuleLaws.{rule-is}
 use Rattle.strings.specs.laws.ResultLaws.{unless-passed}

@@ -7,7 +7,7 @@ use native.Mathlib.Omega.{arith}
 use lib.ListN.{length, drop, length-append, length-take, length-drop}
 use borrow.Author.Tests.{le-leb, lt-leb}
 use Rattle.strings.specs.Bits.{range, atFront, maxBits}
-use Rattle.strings.specs.laws.PackLaws.{Bytes}
+use Rattle.strings.specs.Bits.{Bytes}
 use Rattle.strings.specs.laws.RangeLaws.{range-length}
 use Rattle.strings.specs.StringRule.{stringRule}
 use Rattle.strings.specs.Refusals.{refusalNumber}
@@ -33,9 +33,9 @@ use Rattle.ends.specs.declared.answering.HolderAnswer.the-variants.{Replied, Re
 use Rattle.ends.specs.declared.answering.HolderOut.{HolderOut}
 use Rattle.ends.specs.HolderOutcome.{HolderSaid, answerSaid, saidHolder, leavesHolder}
 use Rattle.layout.specs.Layout.{holderSize, holderBytes, holderOf, isHolder}
-use Rattle.layout.specs.laws.LayoutLaws.{holder-read, holder-fits, holder-bytes-front, length-holder}
+use Rattle.layout.specs.laws.LayoutLaws.{HolderFits, holder-read, holder-bytes-front, length-holder}
 use Rattle.cabi.specs.Packing.{packed}
-use Rattle.cabi.specs.Calls.{holderMade, holderOnBytes, HolderLeft, holderLeft}
+use Rattle.cabi.specs.Calls.{holderMade, holderOnBytes, HolderLeft, holderLeft, holderBytesOutcome}
 
 -- ---- a fresh holder
 pub fresh-short : (s : List ℕ) → length s < holderSize → record { result = 9; state = s } ≡ holderMade s
@@ -157,7 +157,7 @@ pub record HolderCalled : Type 0 where
 -- and what shall be left; the answer's two cases
 module _ (k : HolderCalled) where
   abbrev pub holderLeaves : HolderLeft
-  holderLeaves = holderLeft (k .s) (k .reply) (holderOnBytes (k .s) (k .x) (k .bits) (k .msg) (length (k .reply)))
+  holderLeaves = holderBytesOutcome (k .s) (k .x) (k .bits) (k .msg) (k .reply)
 
   -- what the call on the state gives
   abbrev heard : Result Reply
@@ -178,8 +178,8 @@ module _ (k : HolderCalled) where
   answer-replied {size} {s′} a h = holder-replied (k .s) (k .reply) (k .reply′) (k .st) (k .out) heard size s′ (k .said) a h ∙ called
 
 -- ---- the bytes carry the state: what a taken call leaves, whatever follows it, is taken and read as its next state
-pub holder-carried : (s x : List ℕ) (bits : ℕ) (msg : List ℕ) (capacity : ℕ) (next : Holder) (m l : List ℕ) → Bytes s → Bytes msg
-    → holderOnBytes s x bits msg capacity ≡ replies next m → (isHolder (holderBytes next ++ l) ≡ true) × (holderOf (holderBytes next ++ l) ≡ next)
+pub holder-carried : (s x : List ℕ) (bits : ℕ) (msg : List ℕ) (capacity : ℕ) (next : Holder) (m l : List ℕ) → HolderFits (holderOf s) → Bytes msg
+    → holderOnBytes s x bits msg capacity ≡ replies next m → (isHolder (holderBytes next ++ l) ≡ true) × (holderOf (holderBytes next ++ l) ≡ next) × HolderFits next
 unfolding holderOnBytes
 holder-carried s x bits msg capacity next m l b c e =
     let u = unless-passed (stringRule x bits) BadString _ _ e in
@@ -189,16 +189,15 @@ holder-carried s x bits msg capacity next m l b c e =
     let q = o .bits in
     let r = o .h-most in
     let w = o .answers-most in
-    let i = fields-form msg c (k .kind) (k .at) bits (k .q) (k .fields) .range .key-most in (
-      holder-bytes-front next l,
-      holder-read next l (record {
-        bits-fits = omega arith;
-        h-fits = omega arith;
-        answers-fits = omega arith;
-        key-fits = key-small (k .q) i (heard-made (holderOf s) x bits msg capacity next m k);
-      }),
-    )
+    let i = fields-form msg c (k .kind) (k .at) bits (k .q) (k .fields) .range .key-most in
+    let f : HolderFits next = record {
+      bits-fits = omega arith;
+      h-fits = omega arith;
+      answers-fits = omega arith;
+      key-fits = key-small (k .q) i (heard-made (holderOf s) x bits msg capacity next m k);
+    } in
+    (holder-bytes-front next l, holder-read next l f, f)
   where
     key-small : (q : Question) → keyOf q < 4294967296 → Made (holderOf s) bits q next → next .key < 4294967296
     key-small q i (opens z h key a w n) = let j = ap keyOf a in rw n (omega arith)
-    key-small q i (counts z n f) = rw f (holder-fits s b .key-fits)
+    key-small q i (counts z n f) = rw f (b .key-fits)

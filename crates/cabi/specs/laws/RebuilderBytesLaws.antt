@@ -38,7 +38,7 @@ use Rattle.layout.specs.Layout.{rebuilderSize, rebuilderBytes, rebuilderOf, isR
 use Rattle.layout.specs.laws.LayoutLaws.{length-rebuilder}
 use Rattle.layout.specs.Sheet.{rowSize, sheetBytesAfter}
 use Rattle.cabi.specs.Packing.{packed}
-use Rattle.cabi.specs.Calls.{startOnBytes, StartLeft, startLeft, rebuilderOnBytes, capacitiesIn, RebuilderLeft, rebuilderLeft}
+use Rattle.cabi.specs.Calls.{startOnBytes, StartLeft, startLeft, rebuilderOnBytes, capacitiesIn, RebuilderLeft, rebuilderLeft, startBytesOutcome, rebuilderBytesOutcome}
 
 -- ---- a question has at most 16 bytes, whatever its numbers
 question-most : (q : Question) → length (questionBytes q) ≤ 16
@@ -69,22 +69,19 @@ taken-small st y bits msg capacities t e =
     rw (k .asks) (written-most (planned (stepOf st y (length msg) (k .a) .state)))
 
 -- ---- the returns of the call
--- what shall be left
-abbrev pub callLeaves : (s y : List ℕ) (bits : ℕ) (msg string sheet question : List ℕ) → RebuilderLeft
-callLeaves s y bits msg string sheet question = rebuilderLeft s string sheet question (rebuilderOnBytes s y bits msg (capacitiesIn string sheet question))
 
 module _ (s y : List ℕ) (bits : ℕ) (msg string sheet question : List ℕ) where
   pub call-bad-string : stringRule y bits ≡ false
-      → record { result = 2; state = s; string = string; sheet = sheet; question = question } ≡ callLeaves s y bits msg string sheet question
+      → record { result = 2; state = s; string = string; sheet = sheet; question = question } ≡ rebuilderBytesOutcome s y bits msg string sheet question
   unfolding rebuilderOnBytes packed
   call-bad-string e = rw e refl
 
   pub call-no-state : stringRule y bits ≡ true → isRebuilder s ≡ false
-      → record { result = 3; state = s; string = string; sheet = sheet; question = question } ≡ callLeaves s y bits msg string sheet question
+      → record { result = 3; state = s; string = string; sheet = sheet; question = question } ≡ rebuilderBytesOutcome s y bits msg string sheet question
   unfolding rebuilderOnBytes packed
   call-no-state e f = rw (e, f) refl
 
-  rebuilder-called : stringRule y bits ≡ true → isRebuilder s ≡ true
+  pub rebuilder-called : stringRule y bits ≡ true → isRebuilder s ≡ true
       → rebuilderOnBytes s y bits msg (capacitiesIn string sheet question) ≡ rebuilderCall (rebuilderOf s) y bits msg (capacitiesIn string sheet question)
   unfolding rebuilderOnBytes
   rebuilder-called e f = rw (e, f) refl
@@ -171,7 +168,7 @@ module _ (k : RebuilderCalled) where
   capacities = capacitiesIn (k .string) (k .sheet) (k .question)
 
   abbrev pub calledLeaves : RebuilderLeft
-  calledLeaves = callLeaves (k .s) (k .y) (k .bits) (k .msg) (k .string) (k .sheet) (k .question)
+  calledLeaves = rebuilderBytesOutcome (k .s) (k .y) (k .bits) (k .msg) (k .string) (k .sheet) (k .question)
 
   -- what the call on the state gives
   abbrev heard : Result Taken
@@ -296,7 +293,7 @@ module _ (k : StartCalled) where
       (λ v t. rw (started-is (k .S) (k .y) (k .bits) (length (k .question)) (v .state) (v .question) t .question) (question-most (AskOpen (k .S .h) (k .S .key))))
 
   abbrev pub startLeaves : StartLeft
-  startLeaves = startLeft (k .s) (k .question) (startOnBytes (k .S) (k .y) (k .bits) (length (k .s)) (length (k .question)))
+  startLeaves = startBytesOutcome (k .S) (k .y) (k .bits) (k .s) (k .question)
 
   began-leaves : startLeft (k .s) (k .question) began ≡ startLeaves
   began-leaves = sym (rw (started (k .S) (k .y) (k .bits) (k .s) (k .question) (k .limits) (k .rule) (k .capacity)) refl)

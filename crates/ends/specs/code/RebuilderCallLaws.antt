@@ -17,7 +17,7 @@ use Rattle.strings.specs.Bits.{range, writeBits, cleared, bytesFor, Part, atFro
 use Rattle.strings.specs.StringRule.{stringRule}
 use Rattle.strings.specs.laws.RuleLaws.{rule-is}
 use Rattle.strings.specs.laws.RangeLaws.{range-length}
-use Rattle.strings.specs.laws.PackLaws.{Bytes}
+use Rattle.strings.specs.Bits.{Bytes}
 use Rattle.strings.specs.declared.Refusal.{Refusal}
 use Rattle.strings.specs.declared.Refusal.the-variants.{BadSetting, BadString, OutOfTurn, BufferTooShort}
 use Rattle.messages.specs.declared.Kind.{Kind}
@@ -30,7 +30,7 @@ use Rattle.messages.specs.declared.Question.{Question}
 use Rattle.messages.specs.declared.Question.the-variants.{AskOpen}
 use Rattle.messages.specs.declared.AnswerRead.{AnswerRead}
 use Rattle.messages.specs.declared.AnswerRead.the-variants.{IsSize, IsHash, IsSyndrome, IsBits, NoAnswer}
-use Rattle.messages.specs.Questions.{questionKind, questionBytes}
+use Rattle.messages.specs.Questions.{questionKind, questionBytes, questionLength}
 use Rattle.messages.specs.Answers.{Answer, sizeAnswer, hashAnswer, syndromeAnswer, bitsAnswer, readAnswer, saidAnswer, BitsThere, BitsAt}
 use Rattle.messages.specs.laws.AnswerLaws.{answerKind, answer-form, bits-read, range-rest}
 use Rattle.strings.specs.declared.settings.Settings.{Settings}
@@ -50,7 +50,7 @@ use Rattle.ends.specs.Soundness.{sound, openingSound, phaseSound}
 use Rattle.ends.specs.laws.SoundParts.{Framed, sound-is, phase-whole, OpeningIs, opening-is, WholeIs, whole-is, PiecesIs, top-is, ask-inside, PhaseOf, isOpening, isPieces, isWhole, phase-of}
 use Rattle.ends.specs.laws.SoundSteps.{fresh-sound, opening-sound, whole-sound}
 use Rattle.ends.specs.laws.Steps.{step-opening, step-whole}
-use Rattle.ends.specs.RebuilderCall.{bitsKnown, Taken, openingStep, wholeState, wholeStep, stepOf, questionLength, Capacities, enoughFor, awaits, rebuilderCall, starts, rebuilderStart, freshRebuilder, given, Started}
+use Rattle.ends.specs.RebuilderCall.{bitsKnown, Taken, openingStep, wholeState, wholeStep, stepOf, Capacities, enoughFor, awaits, rebuilderCall, starts, rebuilderStart, freshRebuilder, given, Started}
 use Rattle.ends.specs.declared.rebuilding.RebuilderOut.{RebuilderOut}
 use Rattle.ends.specs.declared.rebuilding.StartAnswer.the-variants.{Begun, NotBegun}
 use Rattle.ends.specs.declared.rebuilding.StartOut.{StartOut}

@@ -9,7 +9,7 @@ use lib.ListN.{length}
 use lib.Dec.{eqb}
 use Rattle.strings.specs.Results.{Result, andThen}
 use Rattle.strings.specs.Bits.{atFront, maxBits}
-use Rattle.strings.specs.laws.PackLaws.{Bytes}
+use Rattle.strings.specs.Bits.{Bytes}
 use Rattle.ends.specs.declared.How.{How}
 use Rattle.ends.specs.declared.How.the-variants.{ByPutIn, ByTakeOut}
 use Rattle.ends.specs.Segments.{offset}
@@ -17,7 +17,7 @@ use Rattle.strings.specs.declared.Refusal.{Refusal}
 use Rattle.messages.specs.declared.Question.{Question}
 use Rattle.messages.specs.declared.AnswerRead.{AnswerRead}
 use Rattle.messages.specs.declared.AnswerRead.the-variants.{IsSize, IsHash, IsSyndrome, IsBits, NoAnswer}
-use Rattle.messages.specs.Questions.{questionKind}
+use Rattle.messages.specs.Questions.{questionKind, questionLength}
 use Rattle.messages.specs.Answers.{Answer, readAnswer, saidAnswer, BitsThere}
 use Rattle.ends.specs.declared.Rebuilder.{Rebuilder}
 use Rattle.ends.specs.declared.SheetChange.{SheetChange}
@@ -25,7 +25,7 @@ use Rattle.ends.specs.declared.SheetChange.the-variants.{NoRow}
 use Rattle.ends.specs.Runs.{full}
 use Rattle.ends.specs.States.{planned, top}
 use Rattle.ends.specs.Soundness.{sound}
-use Rattle.ends.specs.RebuilderCall.{Taken, takes, Step, writtenQuestion, questionLength, Capacities, enoughFor, stepOf, awaits}
+use Rattle.ends.specs.RebuilderCall.{Taken, takes, Step, writtenQuestion, Capacities, enoughFor, stepOf, awaits}
 use Rattle.ends.specs.RebuilderOutcome.{RebuilderSaid, leavesRebuilder, capacities}
 use Rattle.ends.specs.declared.rebuilding.RebuilderAnswer.{RebuilderAnswer}
 use Rattle.ends.specs.declared.rebuilding.RebuilderAnswer.the-variants.{Asks, Finished, Refused}

@@ -7,12 +7,10 @@ use native.Mathlib.Omega.{arith}
 use lib.ListN.{length, replicate}
 use lib.Seq.{sets, length-sets}
 use Rattle.strings.specs.Results.{Result, refusal, value}
-use Rattle.ends.specs.declared.Holder.{Holder}
 use Rattle.ends.specs.declared.Rebuilder.{Rebuilder}
 use Rattle.ends.specs.declared.Row.{Row}
 use Rattle.ends.specs.RebuilderCall.{Capacities, Step, Taken, noRow, rebuilderCall, sheetAfter, takes, rowsNeeded}
 use Rattle.ends.specs.laws.SheetLength.{taken-rows}
-use Rattle.ends.specs.Worlds.{afterTaken, world}
 use Rattle.ends.specs.declared.rebuilding.RebuilderOut.{RebuilderOut}
 use Rattle.ends.specs.RebuilderOutcome.{RebuilderSaid, saidRebuilder, leavesRebuilder}
 use Rattle.ends.specs.SheetCall.{saidOnSheet, sheetLeft, leavesOnSheet}
@@ -37,13 +35,6 @@ module _ (st : Rebuilder) (y : List ℕ) (bits : ℕ) (msg : List ℕ) (capaciti
   -- and done to the sheet, it leaves what the definition says
   pub left-on-sheet : (sh sh′ : List Row) → sh′ ≡ sheetAfter sh (out .sheet) → saidOnSheet out sh′ string′ question′ ≡ leavesOnSheet st sh string question (rebuilderCall st y bits msg capacities)
   left-on-sheet sh sh′ e = rw (said, e, said-left st string question string′ question′ out (rebuilderCall st y bits msg capacities) sh said) refl
-
--- demand 3's world after a call holds the state, the string and the rows that the call leaves
-pub world-left : (H : Holder) (r : Rebuilder) (string : List ℕ) (rows : List Row) (question buffer : List ℕ) (heard taken : List (List ℕ)) (m : List ℕ) (t : Result Taken)
-    → (question′ : List ℕ) × (taken′ : List (List ℕ)) × (afterTaken (world H r string rows question heard taken) m t
-    ≡ world H (leavesOnSheet r rows string buffer t .said .state) (leavesOnSheet r rows string buffer t .said .string) (leavesOnSheet r rows string buffer t .rows) question′ heard taken′)
-world-left H r string rows question buffer heard taken m (refusal e) = (question, taken, refl)
-world-left H r string rows question buffer heard taken m (value v) = (v .question, m ∷ taken, refl)
 
 -- ---- rows cleared one after the other
 -- the rows s, of which those below i are cleared, come from s₀

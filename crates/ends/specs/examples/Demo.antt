@@ -3,7 +3,7 @@ use mathlib.Core.Path.{_≡_, refl}
 use mathlib.Core.Bool.{Bool, true, false}
 use mathlib.Core.List.{List, [], _∷_, _++_, map}
 use Prim.Native.Nat.{ℕ, zero, suc, _+_, _-_, _*_, _/_}
-use lib.ListN.{take, replicate}
+use lib.ListN.{length, take, replicate}
 use Rattle.strings.specs.Results.{Result, refusal, value}
 use Rattle.strings.specs.Bits.{bitAt, range, bytesFor, flipped, setBit, writeBits, pack, cleared, sameBits}
 use Rattle.strings.specs.StringRule.{noneSet, stringRule}
@@ -25,7 +25,8 @@ use Rattle.ends.specs.States.{noPiece, top, popped, pushed, restaged, re
 use Rattle.ends.specs.Soundness.{holderSound, isBlank, blankFrom, pieceFits, inOrder, rowsLeft, asksLeft, stageFits, stackSound, topFits, openingSound, piecesSound, wholeSound, sound}
 use Rattle.ends.specs.HolderCall.{freshHolder, sameBitCount, sends, holderCall, Reply}
 use Rattle.ends.specs.RebuilderCall.{Started, starts, rebuilderStart, Step, Taken, noRow, stringAfter, sheetAfter, tallied, effectStep, openingStep, wholeStep, stepOf, rebuilderCall, freshRebuilder}
-use Rattle.ends.specs.Worlds.{Call, toHolder, toRebuilder, Lent, capacitiesOf, world, firstWorld, worldAfter}
+use Rattle.ends.specs.RebuilderOutcome.{capacities}
+use Rattle.ends.specs.Worlds.{Call, toHolder, toRebuilder, Lent, World, firstWorld, worldAfter}
 use Rattle.ends.specs.declared.Stage.the-variants.{Hashing}
 use Rattle.ends.specs.declared.Phase.the-variants.{AtPieces}
 
@@ -60,19 +61,27 @@ abbrev rounds : (fuel : ℕ) → Lent → Holder → Rebuilder → (string : Lis
 rounds zero c H st bs sh q = []
 rounds (suc f) c H st bs sh [] = lastLines st bs sh
 rounds (suc f) c H st bs sh (b ∷ q) =
-    asks (b ∷ q) ∷ afterReply (holderCall H (c .x) (c .xbits) (b ∷ q) (c .replyCapacity)) (λ (H′ : Holder) (a : List ℕ).
-    afterCall (rebuilderCall st (c .y) (c .ybits) a (capacitiesOf c bs sh)) (λ (s : Step) (q′ : List ℕ).
+    asks (b ∷ q) ∷ afterReply (holderCall H (c .x) (c .xbits) (b ∷ q) (1 + bytesFor (c .xbits) + 9)) (λ (H′ : Holder) (a : List ℕ).
+    afterCall (rebuilderCall st (c .y) (c .ybits) a (capacities (length bs) (length sh) 8)) (λ (s : Step) (q′ : List ℕ).
     rounds f c H′ (s .state) (stringAfter bs (s .string)) (sheetAfter sh (s .sheet)) q′))
 
 abbrev afterStart : Lent → Result Started → List Line
 afterStart c (refusal number) = turnedDown number ∷ []
-afterStart c (value b) =
-    rounds (10 * (c .xbits / c .settings .m) + 7) c freshHolder (b .state) (replicate (bytesFor (c .xbits)) 0) (replicate (2 * (c .xbits / c .settings .m) + 1) noRow) (b .question)
+afterStart c (value b) = rounds (10 * (c .xbits / c .settings .m) + 7) c freshHolder (b .state) (c .string) (c .sheet) (b .question)
 
 -- the printed lines for settings, X and Y: bytes and bit count each
 abbrev demonstration : Settings → (x : List ℕ) (xbits : ℕ) (y : List ℕ) (ybits : ℕ) → List Line
 demonstration S x xbits y ybits =
-    afterStart (record { settings = S; x = x; xbits = xbits; y = y; ybits = ybits; replyCapacity = 1 + bytesFor xbits + 9; questionCapacity = 8 }) (rebuilderStart S y ybits 8)
+    afterStart (record {
+      settings = S;
+      x = x;
+      xbits = xbits;
+      y = y;
+      ybits = ybits;
+      string = replicate (bytesFor xbits) 0;
+      sheet = replicate (2 * (xbits / S .m) + 1) noRow;
+      question = replicate 8 0;
+    }) (rebuilderStart S y ybits 8)
 
 -- ---- the runs
 -- settings 8 8 1 1 and a ceiling
@@ -86,25 +95,29 @@ x64 = 0x33 ∷ 0x38 ∷ 0x85 ∷ 0xfa ∷ 0x2f ∷ 0xea ∷ 0x99 ∷ 0xa9 ∷ []
 abbrev y66 : List ℕ
 y66 = 0x36 ∷ 0x71 ∷ 0x15 ∷ 0xfa ∷ 0x2f ∷ 0xea ∷ 0x8c ∷ 0xd4 ∷ 0xc0 ∷ []
 
--- 01's example as lent, its opening, calls on it, the last one first, and a row that nobody may touch
+-- a row and eight bytes that were there before
+abbrev nines : Row
+nines = record { start = 9; len = 9; how = 9 }
+
+abbrev eight : List ℕ
+eight = replicate 8 0xee
+
+-- 01's example as lent, its opening, and calls on it
 abbrev exampleLent : Lent
-exampleLent = record { settings = upTo 100; x = 0xb0 ∷ []; xbits = 4; y = 0xa0 ∷ []; ybits = 3; replyCapacity = 4; questionCapacity = 8 }
+exampleLent = record { settings = upTo 100; x = 0xb0 ∷ []; xbits = 4; y = 0xa0 ∷ []; ybits = 3; string = 0xff ∷ 0x07 ∷ []; sheet = nines ∷ nines ∷ []; question = eight }
 
 abbrev opening : List ℕ
 opening = 0x00 ∷ 0x01 ∷ 0x08 ∷ 0x01 ∷ []
 
 abbrev exampleCalls : List Call
 exampleCalls =
-    toRebuilder (0x02 ∷ 0x03 ∷ 0xab ∷ 0x01 ∷ [])
-    ∷ toRebuilder (0x02 ∷ 0x03 ∷ 0xab ∷ [])
-    ∷ toHolder (0x02 ∷ 0x00 ∷ 0x04 ∷ [])
-    ∷ toHolder opening
-    ∷ toRebuilder (0x00 ∷ 0x04 ∷ [])
-    ∷ toHolder opening
+    toHolder opening eight
+    ∷ toRebuilder (0x00 ∷ 0x04 ∷ []) eight
+    ∷ toHolder opening eight
+    ∷ toHolder (0x02 ∷ 0x00 ∷ 0x04 ∷ []) eight
+    ∷ toRebuilder (0x02 ∷ 0x03 ∷ 0xab ∷ []) eight
+    ∷ toRebuilder (0x02 ∷ 0x03 ∷ 0xab ∷ 0x01 ∷ []) eight
     ∷ []
-
-abbrev nines : Row
-nines = record { start = 9; len = 9; how = 9 }
 
 pub record Demo : Type 0 where
   -- 01's own: `8 8 1 1 100`, `1011`, `101`
@@ -165,14 +178,17 @@ pub record Demo : Type 0 where
   pub started : rebuilderStart (upTo 100) (0xa0 ∷ []) 3 8 ≡ starts (freshRebuilder (upTo 100) 3) opening
   -- and its calls from there on. The opening sent twice and a message that ends inside its hash are turned down and change nothing;
   -- byte 07 behind the string and the unused row keep what they had
-  pub all-calls : worldAfter exampleLent (firstWorld (freshRebuilder (upTo 100) 3) opening (0xff ∷ 0x07 ∷ []) (nines ∷ nines ∷ [])) exampleCalls
-      ≡ world (record { opened = true; bits = 4; h = 8; key = 1; answers = 2 })
-      (record { settings = upTo 100; ybits = 3; phase = AtPieces; n = 4; answered = 2; counted = 4; rows = 1; stage = Hashing; waiting = 0; pieces = replicate 32 noPiece })
-      (0xb0 ∷ 0x07 ∷ [])
-      (record { start = 0; len = 4; how = 2 } ∷ nines ∷ [])
-      []
-      ((0x02 ∷ 0x00 ∷ 0x04 ∷ []) ∷ opening ∷ [])
-      ((0x02 ∷ 0x03 ∷ 0xab ∷ 0x01 ∷ []) ∷ (0x00 ∷ 0x04 ∷ []) ∷ [])
+  pub all-calls : worldAfter exampleLent (firstWorld exampleLent) exampleCalls
+      ≡ record {
+        holder = record { opened = true; bits = 4; h = 8; key = 1; answers = 2 };
+        rebuilder = record { settings = upTo 100; ybits = 3; phase = AtPieces; n = 4; answered = 2; counted = 4; rows = 1; stage = Hashing; waiting = 0; pieces = replicate 32 noPiece };
+        string = 0xb0 ∷ 0x07 ∷ [];
+        sheet = record { start = 0; len = 4; how = 2 } ∷ nines ∷ [];
+        waiting = [];
+        earlier = opening ∷ (0x02 ∷ 0x00 ∷ 0x04 ∷ []) ∷ [];
+        heard = opening ∷ (0x02 ∷ 0x00 ∷ 0x04 ∷ []) ∷ [];
+        taken = (0x00 ∷ 0x04 ∷ []) ∷ (0x02 ∷ 0x03 ∷ 0xab ∷ 0x01 ∷ []) ∷ [];
+      }
 
 pub demo : Demo
 unfolding bitAt range flipped setBit writeBits pack cleared sameBits noneSet stringRule syndrome insertions deletions withSyndrome putIn takeOut xorLeft xorRight xorshift hashFrom hash groups number nextByte numberAt twoAt threeAt kindAt questionBytes openingAt rangeAt fieldsAt answerBytes sizeAt hashAt syndromeAt bitsAt answerFields readAnswer withinLimits isqrt place hashOf laterStage effect firstStage top popped pushed restaged retried splitAt planned holderSound isBlank blankFrom pieceFits inOrder rowsLeft asksLeft stageFits topFits stackSound openingSound piecesSound wholeSound sound sameBitCount sends holderCall rebuilderStart tallied effectStep openingStep wholeStep stepOf rebuilderCall

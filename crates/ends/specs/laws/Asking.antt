@@ -13,9 +13,9 @@ use Rattle.strings.specs.Refusals.{refusalNumber}
 use Rattle.strings.specs.Results.{value}
 use Rattle.messages.specs.laws.AnswerLaws.{answer-form}
 use Rattle.messages.specs.Answers.{Answer, readAnswer}
-use Rattle.messages.specs.Questions.{questionKind}
+use Rattle.messages.specs.Questions.{questionKind, questionLength}
 use Rattle.messages.specs.declared.Question.{Question}
-use Rattle.ends.specs.RebuilderCall.{Capacities, Step, awaits, bitsKnown, given, questionLength, rebuilderCall, enoughFor, stepOf, takes, writtenQuestion, Taken}
+use Rattle.ends.specs.RebuilderCall.{Capacities, Step, awaits, bitsKnown, given, rebuilderCall, enoughFor, stepOf, takes, writtenQuestion, Taken}
 use Rattle.ends.specs.Runs.{sizeOf}
 use Rattle.ends.specs.Segments.{asks, step}
 use Rattle.ends.specs.laws.SoundSteps.{step-sound}
@@ -27,7 +27,7 @@ use Rattle.ends.specs.declared.Piece.{Piece}
 use Rattle.ends.specs.declared.Rebuilder.{Rebuilder}
 use Rattle.ends.specs.declared.Row.{Row}
 use Rattle.strings.specs.declared.settings.Settings.{Settings}
-use Rattle.strings.specs.laws.PackLaws.{Bytes}
+use Rattle.strings.specs.Bits.{Bytes}
 use Rattle.strings.specs.StringRule.{stringRule}
 use Rattle.strings.specs.declared.Refusal.the-variants.{BadString, BufferTooShort, OutOfTurn}
 use Rattle.ends.specs.declared.Stage.{Stage}

@@ -1,4 +1,4 @@
--- 01, demand 3: the proof.
+-- Parts of the proof of demand 3: questions, lengths of buffers, counts, the start.
 use mathlib.Core.Path.{_≡_, refl, ap, sym}
 use mathlib.Core.Bool.{Bool, true, _&&_}
 use mathlib.Core.List.{List, [], _∷_, _++_}
@@ -8,16 +8,17 @@ use native.Mathlib.Omega.{arith}
 use lib.ListN.{replicate, length}
 use lib.Seq.{length-sets}
 use lib.Dec.{leb, ltb}
-use borrow.Author.Tests.{leb-true}
+use borrow.Author.Tests.{leb-true, le-leb}
 use Rattle.strings.specs.laws.ResultLaws.{unless-passed, value-is}
 use Rattle.messages.specs.Answers.{Answer}
 use Rattle.messages.specs.laws.QuestionLaws.{InRange}
-use Rattle.messages.specs.Questions.{questionBytes}
+use Rattle.messages.specs.Questions.{questionBytes, questionLength}
 use Rattle.messages.specs.declared.Question.{Question}
 use Rattle.messages.specs.declared.Question.the-variants.{AskBits, AskHash, AskOpen, AskSyndrome}
 use Rattle.strings.specs.SettingLimits.{Limits, withinLimits}
+use Rattle.ends.specs.laws.Kept.{Opened}
 use Rattle.ends.specs.laws.Moves.{effectState, moved-effect, moved-opening}
-use Rattle.ends.specs.RebuilderCall.{StringChange, clears, effectStep, freshRebuilder, keeps, noRow, openingStep, questionLength, rebuilderStart, sheetAfter, starts, stepOf, stringAfter, tallied, wholeStep, writes, Started}
+use Rattle.ends.specs.RebuilderCall.{StringChange, clears, effectStep, freshRebuilder, keeps, noRow, openingStep, rebuilderStart, sheetAfter, starts, stepOf, stringAfter, tallied, wholeStep, writes, Started}
 use Rattle.ends.specs.Runs.{Run, advance, judge, opening, question, sizeOf, string, whole, working}
 use Rattle.ends.specs.Segments.{Effect, Segment, ask, asks, dropped, effect, newRows, settled, settles, splits, stays, step, theBits, theSize, waiting, waits}
 use Rattle.ends.specs.laws.Shape.{Inside}
@@ -60,19 +61,7 @@ ask-not-open S x (dropped ys ∷ r) q k = ask-not-open S x r q k
 ask-not-open S x (settled w ys b ∷ r) q k = ask-not-open S (x + length b) r q k
 ask-not-open S x (waiting p ys t ∷ r) q k = let e : asks S x p t ≡ q = cc in rw e at (asks-not-open S x p t)
 
-abbrev pub NotOpening : Run → Type 0
-NotOpening opening = ⊥
-NotOpening (working n c segs rows) = Unit {0}
-NotOpening (whole n c segs rows) = Unit {0}
-
-pub advanced : (S : Settings) (Y : List Bool) (s : Run) (a : Answer) → NotOpening (advance S Y s a)
-unfolding judge
-advanced S Y opening a = tt
-advanced S Y (working n c segs rows) a =
-    by-test NotOpening (ltb (S .ceiling) (c + sizeOf a) && waits (step S a segs)) {a = whole n (c + sizeOf a) (step S a segs) (rows ++ newRows S a 0 segs)} {b = working n (c + sizeOf a) (step S a segs) (rows ++ newRows S a 0 segs)} (λ e. tt) (λ e. tt)
-advanced S Y (whole n c segs rows) a = tt
-
-pub later-not-open : (S : Settings) (s : Run) (q : Question) → NotOpening s → question S s ≡ some q → NotOpen q
+pub later-not-open : (S : Settings) (s : Run) (q : Question) → Opened s → question S s ≡ some q → NotOpen q
 later-not-open S opening q n k = absurd n
 later-not-open S (working n c segs rows) q m k = ask-not-open S 0 segs q k
 later-not-open S (whole n c segs rows) q m k = let e : AskBits 0 n ≡ q = cc in rw (← e) tt
@@ -145,3 +134,9 @@ started-is S y bits qr r q e =
     let w = unless-passed (leb 8 qr) BufferTooShort _ _ (v .1) in
     let d = value-is (w .1) in
     record { limits = limits-is S (u .0); string = v .0; enough = leb-true 8 qr (w .0); state = sym (ap (λ (z : Started). z .state) d); question = sym (ap (λ (z : Started). z .question) d) }
+
+-- a legal start is taken
+pub starts-so : (S : Settings) (y : List ℕ) (bits qr : ℕ) → withinLimits S ≡ true → stringRule y bits ≡ true → 8 ≤ qr
+    → rebuilderStart S y bits qr ≡ starts (freshRebuilder S bits) (questionBytes (AskOpen (S .h) (S .key)))
+unfolding rebuilderStart
+starts-so S y bits qr l r e = rw (l, r, le-leb 8 qr e) refl

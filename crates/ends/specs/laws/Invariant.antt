@@ -21,7 +21,7 @@ use Rattle.ends.specs.laws.Counts.{Nest, begin-copy, begin-nest, begin-n
 use Rattle.ends.specs.Claims.{isWait, rowSum, total}
 use Rattle.strings.specs.SettingLimits.{Limits}
 use Rattle.ends.specs.laws.Right.{Good, begin-ok, begin-span, one, part-length, settled-right, work-ok}
-use Rattle.ends.specs.Runs.{Honest, Run, advance, copies, copyOf, judge, opening, question, run, sizeOf, honestAnswer, whole, working, full}
+use Rattle.ends.specs.Runs.{Run, advance, copies, copyOf, judge, opening, question, sizeOf, honestAnswer, whole, working, full}
 use Rattle.ends.specs.laws.SegmentLaws.{Chain, ask-waits, chain-end, found, rowSum-append, step-chain, step-copies, step-falls, step-rows}
 use Rattle.ends.specs.Segments.{Segment, ask, asks, begin, dropped, effect, hashOf, newRows, rowsOf, settled, step, theSize, waiting, waits, work}
 use Rattle.ends.specs.laws.Shape.{Inside, ProperFor, Shape, asks-inside, begin-shape, proper-bits, proper-full, proper-size, sizes, work-shape}
@@ -184,7 +184,7 @@ module _ (S : Settings) (X Y : List Bool) (L : Limits S) (nX : length X ≤ maxB
   unfolding judge
   judge-true n c segs rows h = by-test (Truth S X) (ltb (S .ceiling) c && waits segs) {a = whole n c segs rows} {b = working n c segs rows} (λ e. h) (λ e. h)
 
-  advance-true : (s : Run) (q : Question) → question S s ≡ some q → Truth S X s → Truth S X (advance S Y s (honestAnswer S X q))
+  pub advance-true : (s : Run) (q : Question) → question S s ≡ some q → Truth S X s → Truth S X (advance S Y s (honestAnswer S X q))
   advance-true opening q k h =
       let e : AskOpen (S .h) (S .key) ≡ q = cc in
       let b = begin-span S L (length X) Y in
@@ -216,14 +216,3 @@ module _ (S : Settings) (X Y : List Bool) (L : Limits S) (nX : length X ≤ maxB
 
   pub proper-now : (asked : ℕ) (s : Run) (q : Question) → Inv S Y asked s → Truth S X s → question S s ≡ some q → ProperFor S q (honestAnswer S X q)
   proper-now asked s q i h k = answer-proper (sizeOfRun s) q (question-inside S Y L asked s q i k) (true-size s q h k)
-
-  pub run-ok : (l : List Answer) → Honest S X Y l → Inv S Y (length l) (run S Y l) × Truth S X (run S Y l)
-  run-ok [] h = (refl, tt)
-  run-ok (a ∷ l) h =
-      let r = run-ok l (h .0) in
-      let q = h .1 .0 in
-      let k = h .1 .1 in
-      rw (h .1 .2) (
-        rw (← add-one) (advance-ok S Y L (length l) (run S Y l) q (honestAnswer S X q) k (proper-now (length l) (run S Y l) q (r .0) (r .1) k) (r .0)),
-        advance-true (run S Y l) q k (r .1),
-      )

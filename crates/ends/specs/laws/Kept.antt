@@ -153,12 +153,6 @@ none-waits S x (dropped ys ∷ r) k = none-waits S x r k
 none-waits S x (settled m ys b ∷ r) k = none-waits S (x + length b) r k
 none-waits S x (waiting p ys t ∷ r) k = let z : _≡_ {A = ℕ} 0 1 = cc in absurd (omega arith)
 
--- the bytes of the answers but the first, which is the opening's
-abbrev pub answerLengths : List Answer → ℕ
-answerLengths [] = 0
-answerLengths (a ∷ []) = 0
-answerLengths (a ∷ b ∷ l) = sizeOf a + answerLengths (b ∷ l)
-
 -- ---- what every run with the holder's answers keeps
 -- after so many answers, in the run s
 pub record Kept (S : Settings) (X Y : List Bool) (answers : ℕ) (s : Run) : Type 0 where
@@ -171,7 +165,7 @@ pub record Kept (S : Settings) (X Y : List Bool) (answers : ℕ) (s : Run) : Typ
   pub finish : question S s ≡ none → Finished S X s
 
 -- ---- the counted bytes
-abbrev Opened : Run → Type 0
+abbrev pub Opened : Run → Type 0
 Opened opening = ⊥
 Opened (working n c segs rows) = Unit {0}
 Opened (whole n c segs rows) = Unit {0}
@@ -182,20 +176,15 @@ module _ (S : Settings) (Y : List Bool) where
   judge-count n c segs rows =
       by-test (λ (s : Run). Opened s × (countOf s ≡ c)) (ltb (S .ceiling) c && waits segs) {a = whole n c segs rows} {b = working n c segs rows} (λ e. (tt, refl)) (λ e. (tt, refl))
 
-  opened : (s : Run) (a : Answer) → Opened (advance S Y s a)
+  pub opened : (s : Run) (a : Answer) → Opened (advance S Y s a)
   opened opening a = tt
   opened (working n c segs rows) a = judge-count n (c + sizeOf a) (step S a segs) (rows ++ newRows S a 0 segs) .0
   opened (whole n c segs rows) a = tt
 
-  counted : (s : Run) (a : Answer) → Opened s → countOf (advance S Y s a) ≡ sizeOf a + countOf s
+  pub counted : (s : Run) (a : Answer) → Opened s → countOf (advance S Y s a) ≡ sizeOf a + countOf s
   counted opening a h = absurd h
   counted (working n c segs rows) a h = let e = judge-count n (c + sizeOf a) (step S a segs) (rows ++ newRows S a 0 segs) .1 in omega arith
   counted (whole n c segs rows) a h = omega arith
-
-  pub count-is : (l : List Answer) → countOf (run S Y l) ≡ answerLengths l
-  count-is [] = refl
-  count-is (a ∷ []) = refl
-  count-is (a ∷ b ∷ l) = counted (run S Y (b ∷ l)) a (opened (run S Y l) b) ∙ ap (λ (n : ℕ). sizeOf a + n) (count-is (b ∷ l))
 
 module _ (S : Settings) (X Y : List Bool) (L : Limits S) (nX : length X ≤ maxBits) where
   finished : (n : ℕ) (segs : List Segment) (rows : List Row) → Held S Y n segs rows → (n ≡ length X) × Chain (Good S X) 0 segs n → ask S 0 segs ≡ none

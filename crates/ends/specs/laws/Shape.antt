@@ -11,13 +11,12 @@ use Rattle.codes.specs.Repair.{putIn, takeOut}
 use Rattle.codes.specs.laws.RepairLaws.{put-in-length, take-out-length}
 use Rattle.messages.specs.Answers.{Answer, bitsAnswer, hashAnswer, sizeAnswer, syndromeAnswer}
 use Rattle.messages.specs.laws.AnswerLaws.{Proper, Values, answer-most, answerKind, bits-answer-size}
-use Rattle.messages.specs.Questions.{questionKind}
+use Rattle.messages.specs.Questions.{questionKind, questionLength}
 use Rattle.messages.specs.declared.Kind.the-variants.{Bits}
 use Rattle.messages.specs.declared.Question.{Question}
 use Rattle.messages.specs.declared.Question.the-variants.{AskBits, AskHash, AskOpen, AskSyndrome}
 use Rattle.ends.specs.Anchors.{place}
 use Rattle.strings.specs.SettingLimits.{Limits}
-use Rattle.ends.specs.RebuilderCall.{questionLength}
 use Rattle.ends.specs.laws.Right.{Fit, StageOk, after-ok, begin-span, first-ok, later-ok, offset-fits}
 use Rattle.ends.specs.Runs.{sizeOf, full}
 use Rattle.ends.specs.laws.SegmentLaws.{Chain}

@@ -6,7 +6,7 @@ use native.Mathlib.Nat.{add-assoc, div-div-eq-div-mul, mod-eq-of-lt}
 use native.Mathlib.Omega.{arith}
 use lib.ListN.{length, getD, set}
 use lib.Seq.{sets, getD-append-add}
-use Rattle.strings.specs.laws.PackLaws.{Bytes}
+use Rattle.strings.specs.Bits.{Bytes}
 use Rattle.layout.specs.Bytes32.{bytesOf, wordAt}
 use Rattle.strings.specs.laws.StoreLaws.{getD-sets-before, getD-sets-behind, getD-sets-in}
 

@@ -20,7 +20,7 @@ use Rattle.ends.specs.States.{noPiece}
 use Rattle.layout.specs.Bytes32.{bytesOf, wordAt}
 use Rattle.layout.specs.Layout.{allBytes, openedNumber, openedOf, phaseNumber, phaseOf, stageNumber, stageOf, holderSize, holderBytes, holderOf, isHolder, pieceBytes, pieceAt, piecesBytes, piecesAt, rebuilderSize, headBytes, rebuilderBytes, fieldsOf, rebuilderOf, isRebuilder}
 use Rattle.strings.specs.laws.StoreLaws.{sets-append, sets-front}
-use Rattle.strings.specs.laws.PackLaws.{Bytes}
+use Rattle.strings.specs.Bits.{Bytes}
 use Rattle.strings.specs.laws.Tests.{and-left, and-true}
 use Rattle.layout.specs.laws.Bytes32Laws.{digits, number-behind, number-below}
 use Rattle.layout.specs.laws.CaseLaws.{opened-most, opened-back, phase-most, phase-back, stage-most, stage-back}

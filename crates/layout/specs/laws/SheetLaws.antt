@@ -10,7 +10,7 @@ use Rattle.strings.specs.Bits.{zeroBytes, cleared}
 use Rattle.ends.specs.declared.Row.{Row}
 use Rattle.ends.specs.declared.SheetChange.{SheetChange}
 use Rattle.ends.specs.declared.SheetChange.the-variants.{NoRow, AddRow, OneRow}
-use Rattle.ends.specs.RebuilderCall.{noRow, sheetAfter, rowsNeeded}
+use Rattle.ends.specs.RebuilderCall.{noRow, sheetAfter, changeRow, rowsNeeded}
 use Rattle.layout.specs.Bytes32.{bytesOf, wordAt}
 use Rattle.layout.specs.Layout.{allBytes}
 use Rattle.layout.specs.Sheet.{rowSize, rowBytes, rowsBytes, rowAt, rowsAt, rowsIn, sheetBytesAfter}
@@ -95,11 +95,14 @@ unfolding rowsBytes
 one-row r = sym (append-nil (rowBytes r))
 
 -- ---- the law
--- the row that a change stores
-abbrev pub changeRow : SheetChange → Row
-changeRow NoRow = noRow
-changeRow (AddRow i r) = r
-changeRow (OneRow used r) = r
+pub rows-at-length : (s : List ℕ) (at n : ℕ) → length (rowsAt s at n) ≡ n
+unfolding rowsAt
+rows-at-length s at zero = refl
+rows-at-length s at (suc n) = ap suc (rows-at-length s (at + rowSize) n)
+
+pub rows-in-length : (s : List ℕ) → length (rowsIn s) ≡ length s / rowSize
+unfolding rowsIn
+rows-in-length s = rows-at-length s 0 (length s / rowSize)
 
 pub same-rows : (s : List ℕ) (k : SheetChange) → RowFits (changeRow k) → rowsNeeded k ≤ length s / 12 → rowsIn (sheetBytesAfter s k) ≡ sheetAfter (rowsIn s) k
 unfolding rowsIn

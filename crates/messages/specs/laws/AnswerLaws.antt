@@ -16,7 +16,8 @@ use Rattle.strings.specs.Refusals.{refusalNumber}
 use Rattle.strings.specs.Results.{Result, refusal, value, unless}
 use Rattle.strings.specs.laws.RangeLaws.{range-length, range-behind}
 use Rattle.strings.specs.laws.RuleLaws.{rule-is, is-rule}
-use Rattle.strings.specs.laws.PackLaws.{Bytes, length-pack, pack-bits, pack-string, string-packed}
+use Rattle.strings.specs.Bits.{Bytes}
+use Rattle.strings.specs.laws.PackLaws.{length-pack, pack-bits, pack-string, string-packed}
 use Rattle.strings.specs.laws.ResultLaws.{unless-passed, then-passed}
 use Rattle.strings.specs.declared.Refusal.the-variants.{Truncated, BadKind, TrailingBytes, OutOfRange}
 use Rattle.messages.specs.declared.Kind.{Kind}

@@ -7,7 +7,7 @@ use lib.ListN.{length, drop}
 use Rattle.strings.specs.laws.ResultLaws.{value-is}
 use Rattle.strings.specs.Refusals.{refusalNumber}
 use Rattle.strings.specs.Results.{Result, refusal, value, mapped}
-use Rattle.strings.specs.laws.PackLaws.{Bytes}
+use Rattle.strings.specs.Bits.{Bytes}
 use Rattle.strings.specs.laws.ResultLaws.{no-value, then-passed}
 use Rattle.strings.specs.declared.Refusal.the-variants.{BadKind}
 use Rattle.messages.specs.declared.Kind.{Kind}

@@ -15,7 +15,7 @@ use Rattle.strings.specs.laws.ResultLaws.{value-is}
 use Rattle.strings.specs.Bits.{maxBits}
 use Rattle.strings.specs.Refusals.{refusalNumber}
 use Rattle.strings.specs.Results.{Result, refusal, value, andThen}
-use Rattle.strings.specs.laws.PackLaws.{Bytes}
+use Rattle.strings.specs.Bits.{Bytes}
 use Rattle.strings.specs.laws.Tests.{by-test}
 use Rattle.strings.specs.laws.ResultLaws.{unless-passed, then-passed}
 use Rattle.strings.specs.declared.Refusal.the-variants.{Truncated, BadNumber}

@@ -12,7 +12,7 @@ use Rattle.strings.specs.Bits.{maxBits}
 use Rattle.strings.specs.SettingLimits.{hashLimits, keyLimits}
 use Rattle.strings.specs.Results.{value}
 use Rattle.strings.specs.laws.Tests.{and-left, and-right}
-use Rattle.strings.specs.laws.PackLaws.{Bytes}
+use Rattle.strings.specs.Bits.{Bytes}
 use Rattle.strings.specs.laws.ResultLaws.{unless-passed, then-passed}
 use Rattle.strings.specs.declared.Refusal.the-variants.{TrailingBytes, OutOfRange}
 use Rattle.messages.specs.declared.Kind.{Kind}

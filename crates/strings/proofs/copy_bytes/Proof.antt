@@ -4,7 +4,8 @@ use native.Mathlib.Omega.{arith}
 use lib.ListN.{length, length-set}
 use borrow.Author.Needs.{needs}
 use Rattle.strings.specs.Bits.{range, writeBits}
-use Rattle.strings.specs.laws.PackLaws.{Bytes, set-bytes}
+use Rattle.strings.specs.Bits.{Bytes}
+use Rattle.strings.specs.laws.PackLaws.{set-bytes}
 use Rattle.strings.specs.laws.ByteLaws.{bytes-first, bytes-next, bytes-last}
 use Rattle.strings.proofs.copy_bytes.Statement.{statement}
 use Rattle.strings.proofs.copy_bytes.Tie as tie

@@ -16,7 +16,8 @@ use Rattle.strings.specs.Bits.{bitAt, range, byteBits, Eight, writeBits}
 use Rattle.strings.specs.laws.BitLaws.{xor-digit, differ-zero}
 use Rattle.strings.specs.laws.RangeLaws.{range-length, range-at, range-add, range-none}
 use Rattle.strings.specs.laws.WriteLaws.{length-writeBits, write-none, write-outside, write-inside, write-append}
-use Rattle.strings.specs.laws.PackLaws.{Bytes, bytes-by-bits, set-bytes, write-bytes}
+use Rattle.strings.specs.Bits.{Bytes}
+use Rattle.strings.specs.laws.PackLaws.{bytes-by-bits, set-bytes, write-bytes}
 
 -- ---- a byte by its bits
 byte-bit : (v j : ℕ) → j < 8 → getD (byteBits v) j false ≡ eqb (v / 2 ^ (7 - j) % 2) 1

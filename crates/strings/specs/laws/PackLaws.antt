@@ -12,16 +12,12 @@ use lib.Seq.{sets, sets-eq, length-sets, ext-getD, getD-set-same, getD-set-other
 use lib.Dec.{eqb}
 use lib.Bits.{bitXor, xor-lt}
 use lib.Pow.{pow-lt}
-use Rattle.strings.specs.Bits.{maxBits, bitAt, range, bytesFor, flipped, setBit, differs, writeBits, zeroBytes, pack, cleared, atFront}
+use Rattle.strings.specs.Bits.{maxBits, Bytes, bitAt, range, bytesFor, flipped, setBit, differs, writeBits, zeroBytes, pack, cleared, atFront}
 use Rattle.strings.specs.StringRule.{IsString}
 use Rattle.strings.specs.laws.StoreLaws.{sets-front}
 use Rattle.strings.specs.laws.RangeLaws.{range-length, range-at}
 use Rattle.strings.specs.laws.WriteLaws.{length-writeBits, write-outside, write-inside, over, range-write, write-front, write-behind}
 use Rattle.strings.specs.laws.RuleLaws.{low-digits, digit-is}
-
--- every element is a byte, as of what a slice of u8 holds
-abbrev pub Bytes : List ℕ → Type 0
-Bytes s = (i : ℕ) → getD s i 0 < 256
 
 -- ---- zeros
 pub length-zeros : (n : ℕ) → length (zeroBytes n) ≡ n
