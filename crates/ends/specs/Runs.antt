@@ -2,7 +2,7 @@
 use mathlib.Core.Bool.{Bool, false, cond, _&&_}
 use mathlib.Core.List.{List, [], _∷_, _++_}
 use mathlib.Core.Option.{Option, none, some}
-use Prim.Native.Nat.{ℕ, zero, suc, _+_, _/_}
+use Prim.Native.Nat.{ℕ, zero, suc, _+_, _/_, max}
 use lib.ListN.{length}
 use lib.Dec.{ltb}
 use Rattle.codes.specs.Syndrome.{syndrome}
@@ -38,6 +38,10 @@ sizeOf a = length (answerBytes a)
 -- 01's F: the bytes of the answer to bits 0, n
 abbrev pub full : ℕ → ℕ
 full n = 1 + (n + 7) / 8
+
+-- the longest answer where X has n bits: a syndrome and a hash, or all bits
+abbrev pub longestAnswer : ℕ → ℕ
+longestAnswer n = max 9 (full n)
 
 -- before the opening's answer; with n, the counted bytes, the pieces and the rows, finished where no piece waits; the same, but bits 0, n asked for
 pub data Run : Type 0 where

@@ -1,7 +1,7 @@
 -- docs/STATE.md: the test for an unsound state (01, refusal 3). Every state from the calls passes it, and a state that passes is safe to go on from.
 use mathlib.Core.Bool.{Bool, true, false, cond, not, _&&_}
 use mathlib.Core.List.{List, [], _∷_}
-use Prim.Native.Nat.{ℕ, zero, suc, _+_, _-_, _*_, _/_, max}
+use Prim.Native.Nat.{ℕ, zero, suc, _+_, _-_, _*_, _/_}
 use lib.ListN.{length, getD}
 use lib.Dec.{leb, ltb, eqb}
 use Rattle.strings.specs.declared.settings.Settings.{Settings}
@@ -16,7 +16,7 @@ use Rattle.ends.specs.declared.Stage.{Stage}
 use Rattle.ends.specs.declared.Stage.the-variants.{Hashing, PuttingIn, TakingOut, Anchor, AllBits}
 use Rattle.strings.specs.SettingLimits.{between, hashLimits, withinLimits}
 use Rattle.ends.specs.Segments.{tooSmall}
-use Rattle.ends.specs.Runs.{full}
+use Rattle.ends.specs.Runs.{full, longestAnswer}
 use Rattle.ends.specs.States.{noPiece, held, top}
 
 -- 01, "Messages": a holder state gives at most 1,000,000 answers
@@ -111,7 +111,7 @@ asksFit st = leb (st .answered + asksLeft (st .settings .m) (held (st .waiting) 
 
 -- the count is past the ceiling only where nothing waits
 abbrev pub mostCounted : Rebuilder → ℕ
-mostCounted st = cond (eqb (st .waiting) 0) (st .settings .ceiling + full (st .n) + max 9 (full (st .n))) (st .settings .ceiling)
+mostCounted st = cond (eqb (st .waiting) 0) (st .settings .ceiling + full (st .n) + longestAnswer (st .n)) (st .settings .ceiling)
 
 unfoldable pub piecesSound : Rebuilder → Bool
 piecesSound st = stackSound st && (leb 1 (st .answered) && (asksFit st && leb (st .counted) (mostCounted st)))
@@ -127,7 +127,7 @@ wholeSound st =
     && (leb 1 (st .answered)
     && (lastAskFits st
     && (ltb 0 (st .waiting)
-    && (ltb (st .settings .ceiling) (st .counted) && leb (st .counted) (st .settings .ceiling + max 9 (full (st .n)))))))
+    && (ltb (st .settings .ceiling) (st .counted) && leb (st .counted) (st .settings .ceiling + longestAnswer (st .n))))))
 
 abbrev pub soundAt : Phase → Rebuilder → Bool
 soundAt AtOpening st = openingSound st

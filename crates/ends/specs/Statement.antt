@@ -4,7 +4,7 @@ use mathlib.Core.Bool.{Bool, true}
 use mathlib.Core.Logic.{_⊎_}
 use mathlib.Core.List.{List, [], _∷_, _++_}
 use mathlib.Core.Option.{Option, none, some}
-use Prim.Native.Nat.{ℕ, _+_, _*_, _/_, max, _≤_}
+use Prim.Native.Nat.{ℕ, _+_, _*_, _/_, _≤_}
 use lib.ListN.{length}
 use Rattle.strings.specs.Bits.{atFront, bytesFor, pack}
 use Rattle.strings.specs.Results.{Result, refusal, value}
@@ -18,7 +18,7 @@ use Rattle.ends.specs.Anchors.{part}
 use Rattle.ends.specs.Claims.{isWait, At, Finished, Settled, total, rowsAtFront, zeroed}
 use Rattle.ends.specs.RebuilderCall.{freshRebuilder, writtenQuestion}
 use Rattle.ends.specs.RebuilderOutcome.{nextSize}
-use Rattle.ends.specs.Runs.{Run, copies, full, honestAnswer, piecesOf, question, run, sheetOf, string}
+use Rattle.ends.specs.Runs.{Run, copies, full, honestAnswer, piecesOf, question, run, sheetOf, string, longestAnswer}
 use Rattle.ends.specs.Segments.{settled}
 use Rattle.ends.specs.Worlds.{Call, Each, Lent, World, bitsOfX, bitsOfY, firstWorld, holderSays, rebuilderSays, startSays, stepWorld, toHolder, toRebuilder, worldAfter}
 use Rattle.ends.specs.declared.How.{How}
@@ -36,7 +36,7 @@ pub record Supposed (c : Lent) : Type 0 where
 
 -- and so is the buffer of each call
 abbrev pub LongEnough : Lent → Call → Type 0
-LongEnough c (toHolder m buffer) = max 9 (full (c .xbits)) ≤ length buffer
+LongEnough c (toHolder m buffer) = longestAnswer (c .xbits) ≤ length buffer
 LongEnough c (toRebuilder m buffer) = 8 ≤ length buffer
 
 -- 01: "The holder's answer to it is the message that "Messages" gives for X under the opening that the rebuilder wrote"
@@ -136,7 +136,7 @@ pub record AfterClaims (c : Lent) (w : World) : Type 0 where
   pub questions : length (w .taken) ≤ 10 * (c .xbits / c .settings .m) + 6
   -- "and the counted bytes keep document 01's bound"; 01: "After each answer but the opening, its bytes join a count"
   pub counted : w .rebuilder .counted ≡ countedBytes (w .taken)
-  pub bytes : countedBytes (w .taken) ≤ c .settings .ceiling + full (c .xbits) + max 9 (full (c .xbits))
+  pub bytes : countedBytes (w .taken) ≤ c .settings .ceiling + full (c .xbits) + longestAnswer (c .xbits)
   -- 01: "At most 32 pieces ever wait"
   pub few : total isWait (piecesOf (runIn c w)) ≤ 32
   -- 01: the settled pieces' bits, and zeros for what waits, packed at the front of the string buffer; "later bytes keep what they had"

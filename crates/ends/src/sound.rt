@@ -1,10 +1,10 @@
 // Tests of the states that are handed in: whether a run can hold them (01, refusal 3; docs/STATE.md).
 ghost use mathlib.Core.Path.{_≡_};
 ghost use mathlib.Core.Bool.{true, false};
-ghost use Prim.Native.Nat.{_+_, _-_, _*_, _/_, max, _≤_, _<_};
+ghost use Prim.Native.Nat.{_+_, _-_, _*_, _/_, _≤_, _<_};
 ghost use Rattle.strings.specs.Bits.{maxBits};
 ghost use Rattle.ends.specs.Soundness.{bound, holderSound, isBlank, blankFrom, pieceFits, inOrder, stageFits, isHashing, asksBefore, stackSound, openingSound, piecesSound, wholeSound, sound, topFits, rowsFit, asksFit, lastAskFits, mostCounted, phaseSound};
-ghost use Rattle.ends.specs.Runs.{full};
+ghost use Rattle.ends.specs.Runs.{full, longestAnswer};
 ghost use Rattle.ends.specs.States.{held};
 ghost use Rattle.ends.specs.code.StateCode.{Usable};
 ghost use Rattle.ends.specs.code.SoundCode.{Sized, Work, Sum};
@@ -243,7 +243,7 @@ fn full_size(n: u32) -> u32
 // The most bytes that one answer has.
 fn answer_bound(n: u32) -> u32
     requires { ⌜ n ≤ maxBits ⌝ }
-    ensures { λ r. ⌜ r ≡ max 9 (full n) ⌝ }
+    ensures { λ r. ⌜ r ≡ longestAnswer n ⌝ }
 {
     let f = full_size(n);
     if f < 9 {

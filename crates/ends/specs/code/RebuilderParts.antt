@@ -4,7 +4,7 @@ use mathlib.Core.Bool.{Bool, true, cond}
 use mathlib.Core.Logic.{_⊎_}
 use mathlib.Core.Option.{some}
 use mathlib.Core.List.{List, [], _∷_}
-use Prim.Native.Nat.{ℕ, _+_, _*_, max, _≤_, _<_}
+use Prim.Native.Nat.{ℕ, _+_, _*_, _≤_, _<_}
 use lib.ListN.{length}
 use lib.Dec.{eqb}
 use Rattle.strings.specs.Results.{Result, andThen}
@@ -22,7 +22,7 @@ use Rattle.messages.specs.Answers.{Answer, readAnswer, saidAnswer, BitsThere}
 use Rattle.ends.specs.declared.Rebuilder.{Rebuilder}
 use Rattle.ends.specs.declared.SheetChange.{SheetChange}
 use Rattle.ends.specs.declared.SheetChange.the-variants.{NoRow}
-use Rattle.ends.specs.Runs.{full}
+use Rattle.ends.specs.Runs.{full, longestAnswer}
 use Rattle.ends.specs.States.{planned, top}
 use Rattle.ends.specs.Soundness.{sound}
 use Rattle.ends.specs.RebuilderCall.{Taken, takes, Step, writtenQuestion, Capacities, enoughFor, stepOf, awaits}
@@ -65,7 +65,7 @@ pub record Acting (st : Rebuilder) (size capacity : ℕ) : Type 0 where
   pub array : length (st .pieces) ≡ 32
   pub phase : st .phase ≡ AtPieces
   pub some : 0 < st .waiting
-  pub short : size ≤ max 9 (full (st .n))
+  pub short : size ≤ longestAnswer (st .n)
   pub enough : 8 ≤ capacity
 
 -- the lent strings hold what the state says of them

@@ -1,13 +1,13 @@
 -- A state that passes the soundness test meets what the functions of src/state.rt require.
 use mathlib.Core.Path.{_≡_}
 use mathlib.Core.Bool.{true, _&&_}
-use Prim.Native.Nat.{ℕ, max, _≤_, _<_}
+use Prim.Native.Nat.{ℕ, _≤_, _<_}
 use native.Mathlib.Nat.{div-le-self, max-le}
 use native.Mathlib.Omega.{arith}
 use lib.Dec.{eqb}
 use Rattle.strings.specs.laws.Tests.{by-test}
 use Rattle.ends.specs.declared.Rebuilder.{Rebuilder}
-use Rattle.ends.specs.Runs.{full}
+use Rattle.ends.specs.Runs.{full, longestAnswer}
 use Rattle.ends.specs.States.{top}
 use Rattle.ends.specs.Soundness.{phaseSound, mostCounted, sound, soundAt}
 use Rattle.ends.specs.laws.SoundParts.{Framed, sound-is, OpeningIs, opening-is, PiecesIs, pieces-is, phase-pieces, WholeIs, whole-is, top-is, stage-long}
@@ -24,7 +24,7 @@ record CountFacts (st : Rebuilder) : Type 0 where
   counted : st .counted ≤ 40000
   used : st .rows ≤ 200000
 
-full-most : (n : ℕ) → n ≤ maxBits → max 9 (full n) ≤ 8193
+full-most : (n : ℕ) → n ≤ maxBits → longestAnswer n ≤ 8193
 full-most n h = max-le {a = 9} {b = full n} (omega arith) (omega arith)
 
 module _ (st : Rebuilder) (f : Framed st) where

@@ -4,7 +4,7 @@ use mathlib.Core.Bool.{Bool, true, false}
 use mathlib.Core.Logic.{_⊎_, inl, inr}
 use mathlib.Core.List.{List, [], _∷_, _++_}
 use mathlib.Core.Option.{Option, none, some}
-use Prim.Native.Nat.{ℕ, suc, _+_, _*_, _/_, max, _≤_, _<_}
+use Prim.Native.Nat.{ℕ, suc, _+_, _*_, _/_, _≤_, _<_}
 use native.Mathlib.Nat.{div-le-self}
 use native.Mathlib.Omega.{arith}
 use lib.ListN.{length}
@@ -29,7 +29,7 @@ use Rattle.ends.specs.Claims.{zeroed, zeroedNext}
 use Rattle.ends.specs.HolderCall.{Reply, afterAnswer, freshHolder, holderCall, inTurn, replies, sameBitCount, sends}
 use Rattle.ends.specs.RebuilderCall.{Step, Taken, bitsKnown, enoughFor, freshRebuilder, rebuilderCall, sheetAfter, stepOf, stringAfter, takes, writtenQuestion}
 use Rattle.ends.specs.RebuilderOutcome.{capacities}
-use Rattle.ends.specs.Runs.{Run, advance, answer, answerFor, continued, countOf, full, honestAnswer, opening, question, run, runFrom, sizeOf, whole, working}
+use Rattle.ends.specs.Runs.{Run, advance, answer, answerFor, continued, countOf, honestAnswer, opening, question, run, runFrom, sizeOf, whole, working, longestAnswer}
 use Rattle.ends.specs.SheetCall.{leavesOnSheet}
 use Rattle.ends.specs.HolderOutcome.{leavesHolder}
 use Rattle.ends.specs.Soundness.{sound, mostAnswers}
@@ -102,7 +102,7 @@ module _ (c : Lent) (sup : Supposed c) where
   proper : (n : ℕ) (s : Run) → Honest n s → (q : Question) → question S s ≡ some q → ProperFor S q (honestAnswer S X q)
   proper n s h q k = proper-now S X Y L nX n s q (h .inv) (h .truth) k
 
-  reply-short : (n : ℕ) (s : Run) → Honest n s → (q : Question) → question S s ≡ some q → length (answerBytes (honestAnswer S X q)) ≤ max 9 (full (c .xbits))
+  reply-short : (n : ℕ) (s : Run) → Honest n s → (q : Question) → question S s ≡ some q → length (answerBytes (honestAnswer S X q)) ≤ longestAnswer (c .xbits)
   unfolding sizeOf
   reply-short n s h q k = sizes S (c .xbits) x-few q (honestAnswer S X q) (inside-of q (in-range n s h q k)) (proper n s h q k)
     where
@@ -311,7 +311,7 @@ module _ (c : Lent) (sup : Supposed c) where
   turn-true (AskBits x p) n = refl
 
   -- "A holder that had taken each earlier question once and nothing else replies exactly this"
-  module _ (n : ℕ) (s : Run) (h : Honest n s) (q : Question) (k : question S s ≡ some q) (reply : List ℕ) (long : max 9 (full (c .xbits)) ≤ length reply) where
+  module _ (n : ℕ) (s : Run) (h : Honest n s) (q : Question) (k : question S s ≡ some q) (reply : List ℕ) (long : longestAnswer (c .xbits) ≤ length reply) where
     sends-it : (next : Holder) → sends (length reply) next (answerBytes (honestAnswer S X q)) ≡ replies next (answerBytes (honestAnswer S X q))
     unfolding sends
     sends-it next =

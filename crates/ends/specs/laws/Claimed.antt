@@ -4,7 +4,7 @@ use mathlib.Core.Bool.{Bool}
 use mathlib.Core.Logic.{_⊎_, inl, inr}
 use mathlib.Core.List.{List, [], _∷_, _++_}
 use mathlib.Core.Option.{Option, none, some}
-use Prim.Native.Nat.{ℕ, _+_, _*_, _/_, max, _≤_, _<_}
+use Prim.Native.Nat.{ℕ, _+_, _*_, _/_, _≤_, _<_}
 use native.Mathlib.Nat.{div-le-self}
 use native.Mathlib.Omega.{arith}
 use lib.ListN.{length, drop}
@@ -25,7 +25,7 @@ use Rattle.ends.specs.HolderCall.{Reply, afterAnswer, freshHolder, holde
 use Rattle.ends.specs.HolderOutcome.{leavesHolder}
 use Rattle.ends.specs.RebuilderCall.{Started, Step, Taken, freshRebuilder, rebuilderCall, rebuilderStart, starts, stepOf, sheetAfter, stringAfter, takes, writtenQuestion}
 use Rattle.ends.specs.RebuilderOutcome.{capacities, leavesStart, nextSize}
-use Rattle.ends.specs.Runs.{Run, advance, countOf, full, honestAnswer, opening, piecesOf, question, run, sheetOf, sizeOf, string, whole, working}
+use Rattle.ends.specs.Runs.{Run, advance, countOf, full, honestAnswer, opening, piecesOf, question, run, sheetOf, sizeOf, string, whole, working, longestAnswer}
 use Rattle.ends.specs.Segments.{settled}
 use Rattle.ends.specs.SheetCall.{SheetSaid, leavesOnSheet}
 use Rattle.ends.specs.Soundness.{mostAnswers}
@@ -235,7 +235,7 @@ module _ (c : Lent) (sup : Supposed c) where
   few-asked w k = rw (x-length c sup) at (kept S X Y (L c sup) (nX c sup) (length (w .taken)) (runIn c w) (k .rep .honest .inv) (k .rep .honest .truth) .questions)
 
   -- the waiting question q, put to a holder that had taken each earlier one once
-  module _ (w : World) (k : Known w) (q : Question) (o : OnceEach (w .earlier) (w .heard)) (buffer : List ℕ) (long : max 9 (full (c .xbits)) ≤ length buffer) where
+  module _ (w : World) (k : Known w) (q : Question) (o : OnceEach (w .earlier) (w .heard)) (buffer : List ℕ) (long : longestAnswer (c .xbits) ≤ length buffer) where
     abbrev pub Replies : Type 0
     Replies = (H : Holder) × (holderCall (w .holder) (c .x) (c .xbits) (questionBytes q) (length buffer) ≡ replies H (answerBytes (honestAnswer S X q)))
 
@@ -265,7 +265,7 @@ module _ (c : Lent) (sup : Supposed c) where
         go (working n d segs rows) h e b = later-replies (working n d segs rows) h e tt b (k .holder)
         go (whole n d segs rows) h e b = later-replies (whole n d segs rows) h e tt b (k .holder)
 
-  module _ (w : World) (k : Known w) (m buffer : List ℕ) (long : max 9 (full (c .xbits)) ≤ length buffer) where
+  module _ (w : World) (k : Known w) (m buffer : List ℕ) (long : longestAnswer (c .xbits) ≤ length buffer) where
     abbrev given : Result Reply
     given = holderCall (w .holder) (c .x) (c .xbits) m (length buffer)
 
@@ -393,7 +393,7 @@ module _ (c : Lent) (sup : Supposed c) where
       let kp = kept S X Y (L c sup) (nX c sup) (length (w .taken)) (runIn c w) (h .inv) (h .truth) in
       let sw = shows (zeroed S Y (w .taken)) (w .rebuilder) (w .string) (w .sheet) (runIn c w) (k .rep .stands) in
       let ci = k .counted in let cs = sw .counted-is in
-      let kb : countOf (runIn c w) ≤ S .ceiling + full (c .xbits) + max 9 (full (c .xbits)) = rw (x-length c sup) at (kp .bytes) in
+      let kb : countOf (runIn c w) ≤ S .ceiling + full (c .xbits) + longestAnswer (c .xbits) = rw (x-length c sup) at (kp .bytes) in
       record {
         waits = k .rep .asks;
         reads = waiting-reads w k;

@@ -4,7 +4,7 @@ use mathlib.Core.Bool.{Bool, true, false, cond, _&&_}
 use mathlib.Core.Logic.{_⊎_, inl, inr}
 use mathlib.Core.List.{List, [], _∷_, _++_, append-nil}
 use mathlib.Core.Option.{some}
-use Prim.Native.Nat.{ℕ, _+_, _*_, _/_, _^_, max, _≤_, _<_}
+use Prim.Native.Nat.{ℕ, _+_, _*_, _/_, _^_, _≤_, _<_}
 use native.Mathlib.Nat.{zero-add}
 use native.Mathlib.Numerals.{add-one}
 use native.Mathlib.Omega.{arith}
@@ -21,7 +21,7 @@ use Rattle.ends.specs.laws.Counts.{Nest, begin-copy, begin-nest, begin-n
 use Rattle.ends.specs.Claims.{isWait, rowSum, total}
 use Rattle.strings.specs.SettingLimits.{Limits}
 use Rattle.ends.specs.laws.Right.{Good, begin-ok, begin-span, one, part-length, settled-right, work-ok}
-use Rattle.ends.specs.Runs.{Run, advance, copies, copyOf, judge, opening, question, sizeOf, honestAnswer, whole, working, full}
+use Rattle.ends.specs.Runs.{Run, advance, copies, copyOf, judge, opening, question, sizeOf, honestAnswer, whole, working, full, longestAnswer}
 use Rattle.ends.specs.laws.SegmentLaws.{Chain, ask-waits, chain-end, found, rowSum-append, step-chain, step-copies, step-falls, step-rows}
 use Rattle.ends.specs.Segments.{Segment, ask, asks, begin, dropped, effect, hashOf, newRows, rowsOf, settled, step, theSize, waiting, waits, work}
 use Rattle.ends.specs.laws.Shape.{Inside, ProperFor, Shape, asks-inside, begin-shape, proper-bits, proper-full, proper-size, sizes, work-shape}
@@ -62,9 +62,9 @@ module _ (S : Settings) (Y : List Bool) where
   abbrev pub Inv : ℕ → Run → Type 0
   Inv asked opening = asked ≡ 0
   Inv asked (working n c segs rows) =
-      Held n segs rows × (asked + total (pot S) segs ≤ 9 * (n / S .m) + 6) × (c ≤ S .ceiling + full n + max 9 (full n)) × (waits segs ≡ true → c ≤ S .ceiling)
+      Held n segs rows × (asked + total (pot S) segs ≤ 9 * (n / S .m) + 6) × (c ≤ S .ceiling + full n + longestAnswer n) × (waits segs ≡ true → c ≤ S .ceiling)
   Inv asked (whole n c segs rows) =
-      Held n segs rows × (asked + 1 ≤ 9 * (n / S .m) + 6) × (c ≤ S .ceiling + max 9 (full n)) × (waits segs ≡ true)
+      Held n segs rows × (asked + 1 ≤ 9 * (n / S .m) + 6) × (c ≤ S .ceiling + longestAnswer n) × (waits segs ≡ true)
 
   module _ (L : Limits S) where
     start-ok : (n : ℕ) → n ≤ maxBits → Inv 1 (working n 0 (begin S n Y ∷ []) [])
@@ -117,7 +117,7 @@ module _ (S : Settings) (Y : List Bool) where
     waits-pot (settled w ys b ∷ r) e = let h = waits-pot r e in omega arith
     waits-pot (waiting p ys t ∷ r) e = let h = before-most t in omega arith
 
-    judge-ok : (asked n c : ℕ) (segs : List Segment) (rows : List Row) → Held n segs rows → asked + total (pot S) segs ≤ 9 * (n / S .m) + 6 → c ≤ S .ceiling + max 9 (full n)
+    judge-ok : (asked n c : ℕ) (segs : List Segment) (rows : List Row) → Held n segs rows → asked + total (pot S) segs ≤ 9 * (n / S .m) + 6 → c ≤ S .ceiling + longestAnswer n
         → Inv asked (judge S n c segs rows)
     unfolding judge
     judge-ok asked n c segs rows h p b = go (ltb (S .ceiling) c) (waits segs) refl refl

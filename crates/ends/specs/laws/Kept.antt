@@ -4,7 +4,7 @@ use mathlib.Core.Bool.{Bool, true, false, _&&_}
 use mathlib.Core.Logic.{_⊎_, inl, inr}
 use mathlib.Core.List.{List, [], _∷_, _++_}
 use mathlib.Core.Option.{none}
-use Prim.Native.Nat.{ℕ, zero, suc, _+_, _-_, _*_, _/_, max, _≤_, _<_}
+use Prim.Native.Nat.{ℕ, zero, suc, _+_, _-_, _*_, _/_, _≤_, _<_}
 use native.Mathlib.Nat.{zero-add, add-zero, le-refl}
 use native.Mathlib.Omega.{arith}
 use native.Mathlib.Decide.{decLt}
@@ -19,7 +19,7 @@ use Rattle.ends.specs.laws.Counts.{pot, rowCost}
 use Rattle.ends.specs.laws.Invariant.{Held, Inv, Truth}
 use Rattle.strings.specs.SettingLimits.{Limits}
 use Rattle.ends.specs.laws.Right.{Good}
-use Rattle.ends.specs.Runs.{Run, advance, blank, copies, countOf, judge, opening, piecesOf, question, run, sheetOf, sizeOf, string, whole, working, full}
+use Rattle.ends.specs.Runs.{Run, advance, blank, copies, countOf, judge, opening, piecesOf, question, run, sheetOf, sizeOf, string, whole, working, full, longestAnswer}
 use Rattle.ends.specs.laws.SegmentLaws.{Chain}
 use Rattle.ends.specs.Segments.{Segment, ask, dropped, newRows, row, rowsOf, settled, span, step, waiting, waits}
 use Rattle.ends.specs.declared.How.{How}
@@ -157,7 +157,7 @@ none-waits S x (waiting p ys t ∷ r) k = let z : _≡_ {A = ℕ} 0 1 = cc in ab
 -- after so many answers, in the run s
 pub record Kept (S : Settings) (X Y : List Bool) (answers : ℕ) (s : Run) : Type 0 where
   pub questions : answers ≤ 10 * (length X / S .m) + 6
-  pub bytes : countOf s ≤ S .ceiling + full (length X) + max 9 (full (length X))
+  pub bytes : countOf s ≤ S .ceiling + full (length X) + longestAnswer (length X)
   pub few : total isWait (piecesOf s) ≤ 32
   pub sheet : length (sheetOf s) ≤ 2 * (length X / S .m) + 1
   pub copied : (piecesOf s ≡ []) ⊎ (copies (piecesOf s) ≡ Y)
@@ -222,7 +222,7 @@ module _ (S : Settings) (X Y : List Bool) (L : Limits S) (nX : length X ≤ maxB
       let h = i .0 in
       let e : n ≡ length X = t .0 in
       let q : asked + total (pot S) segs ≤ 9 * (length X / S .m) + 6 = rw (← e) (i .1) in
-      let b : c ≤ S .ceiling + full (length X) + max 9 (full (length X)) = rw (← e) (i .2) in
+      let b : c ≤ S .ceiling + full (length X) + longestAnswer (length X) = rw (← e) (i .2) in
       record {
         questions = omega arith;
         bytes = b;
@@ -236,7 +236,7 @@ module _ (S : Settings) (X Y : List Bool) (L : Limits S) (nX : length X ≤ maxB
       let h = i .0 in
       let e : n ≡ length X = t .0 in
       let q : asked + 1 ≤ 9 * (length X / S .m) + 6 = rw (← e) (i .1) in
-      let b : c ≤ S .ceiling + max 9 (full (length X)) = rw (← e) (i .2) in
+      let b : c ≤ S .ceiling + longestAnswer (length X) = rw (← e) (i .2) in
       record {
         questions = omega arith;
         bytes = omega arith;

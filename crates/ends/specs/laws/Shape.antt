@@ -3,7 +3,7 @@ use mathlib.Core.Path.{_≡_, refl, ap, _∙_, subst}
 use mathlib.Core.Bool.{Bool}
 use mathlib.Core.List.{List, _∷_}
 use mathlib.Core.Option.{Option, none, some}
-use Prim.Native.Nat.{ℕ, zero, suc, _+_, _-_, max, _≤_, _<_}
+use Prim.Native.Nat.{ℕ, zero, suc, _+_, _-_, _≤_, _<_}
 use native.Mathlib.Omega.{arith}
 use lib.ListN.{length, take, drop}
 use lib.Dec.{eqb}
@@ -18,7 +18,7 @@ use Rattle.messages.specs.declared.Question.the-variants.{AskBits, AskHash, Ask
 use Rattle.ends.specs.Anchors.{place}
 use Rattle.strings.specs.SettingLimits.{Limits}
 use Rattle.ends.specs.laws.Right.{Fit, StageOk, after-ok, begin-span, first-ok, later-ok, offset-fits}
-use Rattle.ends.specs.Runs.{sizeOf, full}
+use Rattle.ends.specs.Runs.{sizeOf, full, longestAnswer}
 use Rattle.ends.specs.laws.SegmentLaws.{Chain}
 use Rattle.ends.specs.Segments.{Effect, Segment, asks, begin, dropped, effect, hashOf, made, placed, retry, settled, settles, span, theBits, theHash, theSize, theSyndrome, trial, trialOf, waiting, work, offset, afterAnchor}
 use Rattle.ends.specs.declared.How.{How}
@@ -77,7 +77,7 @@ inside-length n (AskSyndrome x p) i = let j = i .1 in omega arith
 inside-length n (AskBits x p) i = let j = i .1 in omega arith
 
 -- a proper answer's bytes
-pub sizes : (S : Settings) (n : ℕ) → n ≤ maxBits → (q : Question) (a : Answer) → Inside n q → ProperFor S q a → sizeOf a ≤ max 9 (full n)
+pub sizes : (S : Settings) (n : ℕ) → n ≤ maxBits → (q : Question) (a : Answer) → Inside n q → ProperFor S q a → sizeOf a ≤ longestAnswer n
 unfolding sizeOf
 sizes S n h q a i p = let l = inside-length n q i in let e = answer-most (questionLength q) (S .h) a (omega arith) (p .values) in omega arith
 

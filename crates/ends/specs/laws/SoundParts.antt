@@ -3,7 +3,7 @@ use mathlib.Core.Path.{_≡_, refl, ap, _∙_}
 use mathlib.Core.Bool.{Bool, true, false, cond, _&&_, _||_}
 use mathlib.Core.List.{_∷_}
 use mathlib.Core.Option.{none, some}
-use Prim.Native.Nat.{ℕ, zero, suc, _+_, _-_, _*_, _/_, max, _≤_, _<_}
+use Prim.Native.Nat.{ℕ, zero, suc, _+_, _-_, _*_, _/_, _≤_, _<_}
 use native.Mathlib.Omega.{arith}
 use native.Mathlib.Decide.{ℕ-discrete, decLe}
 use lib.ListN.{length, getD}
@@ -16,7 +16,7 @@ use Rattle.ends.specs.Soundness.{bound, asksLeft, blankFrom, inOrder, mo
 use Rattle.strings.specs.SettingLimits.{Limits, withinLimits}
 use Rattle.ends.specs.laws.Moves.{Blank, held-top}
 use Rattle.ends.specs.laws.Right.{Long, StageOk, offset-fits}
-use Rattle.ends.specs.Runs.{blank, full}
+use Rattle.ends.specs.Runs.{blank, longestAnswer}
 use Rattle.ends.specs.Segments.{asks, waiting}
 use Rattle.ends.specs.laws.Shape.{Inside}
 use Rattle.strings.specs.laws.SettingLaws.{is-limits, limits-is}
@@ -114,7 +114,7 @@ pub record WholeIs (st : Rebuilder) : Type 0 where
   pub asks : st .answered + 1 ≤ 9 * (st .n / st .settings .m) + 6
   pub some : 0 < st .waiting
   pub past : st .settings .ceiling < st .counted
-  pub counted : st .counted ≤ st .settings .ceiling + max 9 (full (st .n))
+  pub counted : st .counted ≤ st .settings .ceiling + longestAnswer (st .n)
 
 pub whole-is : (st : Rebuilder) → wholeSound st ≡ true → WholeIs st
 unfolding wholeSound

@@ -18,7 +18,7 @@ use Rattle.strings.specs.SettingLimits.{Limits}
 use Rattle.ends.specs.laws.Moves.{Blank, effectState, held-top, moved-effect, moved-opening}
 use Rattle.ends.specs.RebuilderCall.{counting, effectStep, freshRebuilder, openedState, openingStep, stepOf, tallied, wholeStep}
 use Rattle.ends.specs.laws.Right.{StageOk}
-use Rattle.ends.specs.Runs.{blank, sizeOf, full}
+use Rattle.ends.specs.Runs.{blank, sizeOf, full, longestAnswer}
 use Rattle.ends.specs.Segments.{Effect, asks, effect, settles, splits, stays, theBits, theSize, nextStage, firstStage, laterStage, tooSmall}
 use Rattle.ends.specs.laws.Shape.{Inside, ProperFor, proper-full, proper-size, sizes}
 use Rattle.ends.specs.laws.SoundLaws.{Ordered, first-fits, fits-stage, next-fits, ordered-from}
@@ -119,7 +119,7 @@ pub record Tally (s : Rebuilder) (size rows : ℕ) : Type 0 where
   pub rows-fit : s .rows + rows + rowsLeft (s .settings .m) (held (s .waiting) (s .pieces)) ≤ 2 * (s .n / s .settings .m) + 1
   pub asks : s .answered + 1 + asksLeft (s .settings .m) (held (s .waiting) (s .pieces)) ≤ 9 * (s .n / s .settings .m) + 6 + asksBefore (s .stage)
   pub counted : s .counted ≤ s .settings .ceiling
-  pub short : size ≤ max 9 (full (s .n))
+  pub short : size ≤ longestAnswer (s .n)
 
 module _ (s : Rebuilder) (size rows : ℕ) (k : Tally s size rows) where
   abbrev over : Phase → Rebuilder
@@ -132,7 +132,7 @@ module _ (s : Rebuilder) (size rows : ℕ) (k : Tally s size rows) where
   unfolding topFits top
   over-stack ph = record { fits = k .fits; order = k .order; rows = k .rows-fit }
 
-  over-pieces : s .counted + size ≤ cond (eqb (s .waiting) 0) (s .settings .ceiling + full (s .n) + max 9 (full (s .n))) (s .settings .ceiling) → sound (over AtPieces) ≡ true
+  over-pieces : s .counted + size ≤ cond (eqb (s .waiting) 0) (s .settings .ceiling + full (s .n) + longestAnswer (s .n)) (s .settings .ceiling) → sound (over AtPieces) ≡ true
   over-pieces h =
       is-sound (over AtPieces) (over-framed AtPieces) (phase-pieces (over AtPieces) refl ∙ is-pieces (over AtPieces) record { stack = over-stack AtPieces; answered = omega arith; asks = k .asks; counted = h })
 
@@ -207,7 +207,7 @@ low-stage S a p ys (Anchor Third) = any-low (Anchor Third) (lit≤ tt) (effect S
 low-stage S a p ys AllBits = tt
 
 -- ---- one answer for the leftmost piece
-module _ (st : Rebuilder) (arr : length (st .pieces) ≡ 32) (f : Framed st) (k : PiecesIs st) (pos : 0 < st .waiting) (few : st .waiting < 32) (size : ℕ) (short : size ≤ max 9 (full (st .n))) where
+module _ (st : Rebuilder) (arr : length (st .pieces) ≡ 32) (f : Framed st) (k : PiecesIs st) (pos : 0 < st .waiting) (few : st .waiting < 32) (size : ℕ) (short : size ≤ longestAnswer (st .n)) where
   abbrev S′ : Settings
   S′ = st .settings
 
@@ -317,7 +317,7 @@ tallied-effect st size (stays t) s m = (s, m)
 tallied-effect st size (splits x r b) s m = (s, m)
 
 -- an answer for the leftmost piece
-piece-sound : (st : Rebuilder) (y : List ℕ) (a : Answer) (size : ℕ) → length (st .pieces) ≡ 32 → Framed st → PiecesIs st → 0 < st .waiting → size ≤ max 9 (full (st .n))
+piece-sound : (st : Rebuilder) (y : List ℕ) (a : Answer) (size : ℕ) → length (st .pieces) ≡ 32 → Framed st → PiecesIs st → 0 < st .waiting → size ≤ longestAnswer (st .n)
     → Sound′ (effectStep st size (effect (st .settings) a (top st .p) (range y (top st .y) (top st .q)) (st .stage)) .state)
 piece-sound st y a size arr f k pos short =
     let S = st .settings in
