@@ -56,6 +56,13 @@ pub fn refusal_number(e: Refusal) -> u32
     }
 }
 
+// A byte as a number of 32 bits.
+pub fn wide(b: u8) -> u32
+    ensures { λ r. ⌜ (r ≡ b) × (r ≤ 255) ⌝ }
+{
+    b as u32
+}
+
 // Whether the bytes are a string of that many bits. Only the length and the last byte are looked at.
 pub fn keeps_string_rule(s: &[u8], bits: usize) -> bool
     ensures { λ r. ⌜ r ≡ stringRule (now (s .entry)) bits ⌝ }
