@@ -12,7 +12,11 @@ mod settings;
 
 pub use settings::Settings;
 pub use settings::both;
+pub use settings::is_anchor_length;
 pub use settings::is_between;
+pub use settings::is_hash_width;
+pub use settings::is_key;
+pub use settings::is_window_factor;
 
 // The most bits that a string has (specs/Bits.antt: maxBits).
 pub const MAX_BITS: usize = 65536;
