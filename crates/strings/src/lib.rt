@@ -21,6 +21,9 @@ pub use settings::is_window_factor;
 // The most bits that a string has (specs/Bits.antt: maxBits).
 pub const MAX_BITS: usize = 65536;
 
+// The same, as the states have numbers.
+pub const MOST_BITS: u32 = MAX_BITS as u32;
+
 // Why a call is turned down (01, "Why a call is turned down"). specs/Refusals.antt has the numbers, 1 to 9 in this order.
 pub enum Refusal {
     // A setting handed in is outside its limits.
