@@ -1,5 +1,8 @@
 #!/usr/bin/env python3
-"""Works out crates/samples/stdout from document 01, by brute force over all strings; nothing here follows the code."""
+"""Works out crates/samples/stdout from document 01, by brute force over all strings; nothing here follows the code.
+
+The last five lines are not worked out but stand here as text: the house settings, and calls that are turned down, after 01's list of
+refusals, with one repair that is done."""
 from itertools import product
 
 from runs import place, run
@@ -93,6 +96,7 @@ line("eight ones at 0 to 58:", *["none" if r is None else r for r in places])
 tie = place("01010101", 28, 64, "1" * 28 + "0101010101" + "1" * 28, 1)
 assert tie == 28
 line("01010101 at 28 and 30:", tie)
+line("house settings: 16 16 2 1 4096")
 line("hash with h 7, h 33, key 0, a spare bit: R 1 R 1 R 1 R 2")
 line("syndrome with a spare bit, a byte too many, one too few: R 2 R 2 R 2")
 line("repair of 1011 to 4 bits, to 6, to 5 with syndrome 5, with syndrome 6: R 8 R 8 done R 8")

@@ -22,6 +22,7 @@ use ends::StartAnswer;
 use layout::HOLDER_BYTES;
 use layout::REBUILDER_BYTES;
 use layout::ROW_BYTES;
+use strings::Refusal;
 use strings::Settings;
 
 mod packing;
@@ -78,7 +79,7 @@ pub extern "C" fn lo_holder_fresh(state: &mut [u8]) -> u64
 {
     let capacity = state.len();
     if capacity < HOLDER_BYTES {
-        return 9;
+        return packing::pack_refusal(Refusal::BufferTooShort);
     }
     let fresh = ends::fresh_holder();
     layout::write_holder(state, fresh);
@@ -98,10 +99,10 @@ pub extern "C" fn lo_holder_answer(
         ≡ holderBytesOutcome (now (state .entry)) (now (x .entry)) bits (now (msg .entry)) (now (reply .entry)) ⌝ }
 {
     if !strings::keeps_string_rule(x, bits) {
-        return 2;
+        return packing::pack_refusal(Refusal::BadString);
     }
     if !layout::holds_holder(state) {
-        return 3;
+        return packing::pack_refusal(Refusal::OutOfTurn);
     }
     let st = layout::read_holder(state);
     let out = ends::holder_call(st, x, bits, msg, reply);
@@ -133,14 +134,14 @@ pub extern "C" fn lo_rebuilder_start(
 {
     let s = Settings::new(m, h, k, key, ceiling);
     if !s.is_within_limits() {
-        return 1;
+        return packing::pack_refusal(Refusal::BadSetting);
     }
     if !strings::keeps_string_rule(y, bits) {
-        return 2;
+        return packing::pack_refusal(Refusal::BadString);
     }
     let capacity = state.len();
     if capacity < REBUILDER_BYTES {
-        return 9;
+        return packing::pack_refusal(Refusal::BufferTooShort);
     }
     let out = ends::rebuilder_start(s, y, bits, question);
     let answer = out.answer;
@@ -188,10 +189,10 @@ pub extern "C" fn lo_rebuilder_call(
         ≡ rebuilderBytesOutcome (now (state .entry)) (now (y .entry)) bits (now (msg .entry)) (now (string .entry)) (now (sheet .entry)) (now (question .entry)) ⌝ }
 {
     if !strings::keeps_string_rule(y, bits) {
-        return 2;
+        return packing::pack_refusal(Refusal::BadString);
     }
     if !layout::holds_rebuilder(state) {
-        return 3;
+        return packing::pack_refusal(Refusal::OutOfTurn);
     }
     let st = layout::read_rebuilder(state);
     let rows = sheet.len() / ROW_BYTES;

@@ -37,10 +37,7 @@ pub fn syndrome(s: &[u8], bits: usize) -> NumberAnswer
 fn keeps_hash_settings(h: u32, key: u32) -> bool
     ensures { λ r. ⌜ r ≡ hashSettings h key ⌝ }
 {
-    strings::both(
-        strings::is_between(8, h, 32),
-        strings::is_between(1, key, 4294967295),
-    )
+    strings::both(strings::is_hash_width(h), strings::is_key(key))
 }
 
 // The hash of a string.

@@ -14,11 +14,9 @@ use libc::STDIN_FILENO;
 use libc::STDOUT_FILENO;
 use lines::SettingsRead;
 use lines::StringRead;
+use strings::MOST_BITS;
 use strings::Refusal;
 use strings::Settings;
-
-// A string's most bits, as a number of a state.
-const MOST_BITS: u32 = strings::MAX_BITS as u32;
 
 // How far the run is: a question of so many bytes waits for its answer, X is rebuilt, or a call was turned down.
 enum Progress {

@@ -130,16 +130,7 @@ pub fn place_anchor(
 fn keeps_anchor_settings(m: u32, k: u32) -> bool
     ensures { λ r. ⌜ r ≡ anchorSettings m k ⌝ }
 {
-    if m < 8 {
-        return false;
-    }
-    if 64 < m {
-        return false;
-    }
-    if k < 1 {
-        return false;
-    }
-    k <= 8
+    strings::both(strings::is_anchor_length(m), strings::is_window_factor(k))
 }
 
 // Whether start + len is at most end; the sum itself may not fit.

@@ -24,9 +24,6 @@ pub use rebuilding::rebuilder_call;
 pub use rebuilding::rebuilder_start;
 pub use sheet::rebuilder_call_on_sheet;
 
-// The most bits of a string, as the states have numbers.
-const MOST_BITS: u32 = strings::MAX_BITS as u32;
-
 // The most answers that a holder gives (specs/Soundness.antt: mostAnswers).
 const MOST_ANSWERS: u32 = 1000000;
 
@@ -53,6 +50,14 @@ pub struct Piece {
     pub y: u32,
     pub q: u32,
 }
+
+// An entry with no piece.
+pub const NO_PIECE: Piece = Piece {
+    x: 0,
+    p: 0,
+    y: 0,
+    q: 0,
+};
 
 // Step 4's anchors, in the order in which they are tried.
 pub enum Attempt {

@@ -26,6 +26,9 @@ use strings::Refusal;
 use strings::Settings;
 use strings::both;
 
+// The bytes of a question's buffer: no question takes more.
+const QUESTION_BYTES: usize = 8;
+
 // What a start gives: the length of the opening question, or why it is turned down.
 pub enum StartAnswer {
     Begun(usize),
@@ -115,7 +118,7 @@ fn is_enough(m: u32, n: u32, string: usize, rows: usize, question: usize) -> boo
     let most = 2 * (n as usize / m as usize) + 1;
     both(
         (n as usize + 7) / 8 <= string,
-        both(most <= rows, 8 <= question),
+        both(most <= rows, QUESTION_BYTES <= question),
     )
 }
 
@@ -248,10 +251,11 @@ pub fn rebuilder_start(settings: Settings, y: &[u8], bits: usize, question: &mut
     if !strings::keeps_string_rule(y, bits) {
         return not_begun(Refusal::BadString);
     }
-    if question.len() < 8 {
+    if question.len() < QUESTION_BYTES {
         return not_begun(Refusal::BufferTooShort);
     }
     match messages::write_question(Question::AskOpen(settings.h, settings.key), question) {
+        // Never: the opening takes at most QUESTION_BYTES, kind, version, h and key of 1, 1, 1 and up to 5 bytes.
         WriteResult::TooShort => not_begun(Refusal::BufferTooShort),
         WriteResult::Written(size) => StartOut {
             answer: StartAnswer::Begun(size),

@@ -11,7 +11,6 @@ ghost use Rattle.ends.specs.code.SoundCode.{Sized, Work, Sum};
 use crate::Attempt;
 use crate::Holder;
 use crate::MOST_ANSWERS;
-use crate::MOST_BITS;
 use crate::Phase;
 use crate::Piece;
 use crate::Rebuilder;
@@ -19,9 +18,11 @@ use crate::Stage;
 use crate::state::too_small;
 use crate::state::top;
 use crate::state::wide;
+use strings::MOST_BITS;
 use strings::Settings;
 use strings::both;
 use strings::is_between;
+use strings::is_hash_width;
 
 // Whether a run can hold the holder's state.
 pub fn holder_is_sound(st: Holder) -> bool
@@ -29,7 +30,7 @@ pub fn holder_is_sound(st: Holder) -> bool
 {
     if st.opened {
         let rest = both(
-            is_between(8, st.h, 32),
+            is_hash_width(st.h),
             both(1 <= st.key, is_between(1, st.answers, MOST_ANSWERS)),
         );
         return both(st.bits <= MOST_BITS, rest);

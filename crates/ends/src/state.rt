@@ -9,6 +9,7 @@ ghost use Rattle.ends.specs.RebuilderCall.{counting, tallied, openingSte
 ghost use Rattle.ends.specs.declared.Phase.the-variants.{AtPieces, AtWhole};
 ghost use Rattle.ends.specs.code.StateCode.{planOf, Usable, Holds, Stages, Retries, Offsets, Splits, Counts, Asks, Plans};
 use crate::Attempt;
+use crate::NO_PIECE;
 use crate::Phase;
 use crate::Piece;
 use crate::Rebuilder;
@@ -22,14 +23,6 @@ pub enum Plan {
     Ask(Question),
     Finished,
 }
-
-// An entry with no piece.
-const NO_PIECE: Piece = Piece {
-    x: 0,
-    p: 0,
-    y: 0,
-    q: 0,
-};
 
 // The state with another stage and other pieces. A field that is an enum can't be stored to, so that the state is written anew.
 fn with_stack(st: Rebuilder, stage: Stage, waiting: u32, pieces: [Piece; 32]) -> Rebuilder

@@ -110,10 +110,11 @@ fn split(st: Rebuilder, size: u32, s: u32, r: u32, question: &mut [u8]) -> Rebui
     let t = state::top(st);
     let one = state::split_at(st, s, r);
     let next = state::tally(one, size, 1);
+    let number = how_number(How::ByAnchor);
     let line = Row {
         start: t.x + s,
         len: st.settings.m,
-        how: 4,
+        how: number,
     };
     finish(next, SheetChange::AddRow(st.rows, line), question)
 }
@@ -269,10 +270,11 @@ fn take_whole(
 {
     let s = state::whole_state(st, size);
     strings::copy_bits(bits, 0, st.n as usize, string, 0);
+    let number = how_number(How::ByBits);
     let line = Row {
         start: 0,
         len: st.n,
-        how: 5,
+        how: number,
     };
     finish(s, SheetChange::OneRow(st.rows, line), question)
 }

@@ -1,12 +1,11 @@
-// States and sheet as bytes (docs/LAYOUT.md), for the C interface; the demonstration program keeps its sheet so too. Reading and writing
-// require that the slice is long enough: an entry point tests it first, and the demonstration's sheet is long enough for every run.
+// States and sheet as bytes (docs/LAYOUT.md), for the C interface. Reading and writing require that the slice is long enough: an entry
+// point tests it first.
 mod cases;
 mod numbers;
 mod sheet;
 mod state;
 
 pub use sheet::apply_change;
-pub use sheet::read_row;
 pub use state::holds_holder;
 pub use state::holds_rebuilder;
 pub use state::read_holder;

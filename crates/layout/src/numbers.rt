@@ -6,13 +6,7 @@ ghost use lib.ListN.{length};
 ghost use lib.Seq.{sets};
 ghost use Rattle.layout.specs.Bytes32.{bytesOf, wordAt};
 ghost use Rattle.layout.specs.Layout.{allBytes};
-
-// A byte as a number of 32 bits.
-fn wide(b: u8) -> u32
-    ensures { λ r. ⌜ (r ≡ b) × (r ≤ 255) ⌝ }
-{
-    b as u32
-}
+use strings::wide;
 
 // The number at offset `at`.
 pub fn read_u32(s: &[u8], at: usize) -> u32

@@ -1,30 +1,16 @@
-// The sheet as bytes: rows of 12 bytes. The call has tested the sheet's length before a row is written, and only rows in the sheet are
-// read, so that these functions may require it.
+// The sheet as bytes: rows of 12 bytes. The call has tested the sheet's length before a row is written, so that these functions may
+// require it.
 ghost use mathlib.Core.Path.{_≡_};
 ghost use Prim.Native.Nat.{_+_, _-_, _*_, _≤_};
 ghost use lib.ListN.{length, replicate};
 ghost use lib.Seq.{sets};
 ghost use Rattle.ends.specs.RebuilderCall.{noRow, rowsNeeded};
-ghost use Rattle.layout.specs.Sheet.{rowSize, rowAt, rowBytes, rowsBytes, sheetBytesAfter};
+ghost use Rattle.layout.specs.Sheet.{rowSize, rowBytes, rowsBytes, sheetBytesAfter};
 use crate::ROW_BYTES;
-use crate::numbers::read_u32;
 use crate::numbers::write_two;
 use crate::numbers::write_u32;
 use ends::Row;
 use ends::SheetChange;
-
-// The row at its index.
-pub fn read_row(sheet: &[u8], index: usize) -> Row
-    requires { ⌜ rowSize * index + rowSize ≤ length (now sheet) ⌝ }
-    ensures { λ r. ⌜ r ≡ rowAt (now (sheet .entry)) (rowSize * index) ⌝ }
-{
-    let from = ROW_BYTES * index;
-    Row {
-        start: read_u32(sheet, from),
-        len: read_u32(sheet, from + 4),
-        how: read_u32(sheet, from + 8),
-    }
-}
 
 // A row is written at its index.
 pub fn write_row(sheet: &mut [u8], index: usize, row: Row)

@@ -19,16 +19,10 @@ use crate::numbers::read_u32;
 use crate::numbers::write_four;
 use crate::numbers::write_u32;
 use ends::Holder;
+use ends::NO_PIECE;
 use ends::Piece;
 use ends::Rebuilder;
 use strings::Settings;
-
-const NO_PIECE: Piece = Piece {
-    x: 0,
-    p: 0,
-    y: 0,
-    q: 0,
-};
 
 // Whether the first bytes are those of some holder's state.
 pub fn holds_holder(s: &[u8]) -> bool

@@ -5,17 +5,12 @@ ghost use lib.ListN.{length};
 ghost use lib.Seq.{sets};
 ghost use Rattle.messages.specs.Numbers.{number, nextByte, numberAt, saidNumber};
 use strings::Refusal;
+use strings::wide;
 
 // What reading a number at a position gave: its value and the position behind it, or why not.
 pub enum NumberRead {
     Value(u32, usize),
     NoNumber(Refusal),
-}
-
-fn wide(x: u8) -> u32
-    ensures { λ r. ⌜ r ≡ x ⌝ }
-{
-    x as u32
 }
 
 // The fifth byte of a number, at index i, after four that gave v below 2^28: it is the last, and counts 2^28-fold.

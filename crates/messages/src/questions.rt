@@ -39,10 +39,10 @@ fn opening_in(size: usize, version: u32, h: u32, key: u32, end: usize) -> Questi
     if version != 1 {
         return QuestionRead::NoQuestion(Refusal::OutOfRange);
     }
-    if !strings::is_between(8, h, 32) {
+    if !strings::is_hash_width(h) {
         return QuestionRead::NoQuestion(Refusal::OutOfRange);
     }
-    if !strings::is_between(1, key, 4294967295) {
+    if !strings::is_key(key) {
         return QuestionRead::NoQuestion(Refusal::OutOfRange);
     }
     QuestionRead::Asked(Question::AskOpen(h, key))

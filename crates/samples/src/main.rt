@@ -1,6 +1,7 @@
 // Prints samples on standard output, which the gate compares with the stored stdout: outputs of Marsaglia's xorshift, rows and hashes,
-// the syndrome and every repair of each string of up to 8 bits, messages and anchor places at the edges that 01 names, and calls that are
-// turned down. The stored file is worked out from document 01 by another program (tools/samples.py).
+// the syndrome and every repair of each string of up to 8 bits, messages and anchor places at the edges that 01 names, the house settings,
+// and calls that are turned down. The stored file is worked out from document 01 by another program (tools/samples.py), but for its last
+// five lines, which stand there as text: the house settings, the calls that are turned down and one repair that is done.
 ghost use Prim.Native.Nat.{_≤_, _<_};
 use codes::NumberAnswer;
 use codes::RepairAnswer;
@@ -193,6 +194,18 @@ fn print_call(s: &[u8], bits: usize, n: usize, a: usize) {
     }
 }
 
+// The house settings: m, h, k, key, ceiling.
+fn print_house() {
+    let house = Settings::house();
+    print(b"house settings:");
+    print_number(house.m as u64);
+    print_number(house.h as u64);
+    print_number(house.k as u64);
+    print_number(house.key as u64);
+    print_number(house.ceiling as u64);
+    print(b"\n");
+}
+
 fn print_refusals() {
     let zeros = [0u8; 8192];
     print(b"hash with h 7, h 33, key 0, a spare bit:");
@@ -348,5 +361,6 @@ fn main() {
     print_pieces();
     print_none();
     print_places();
+    print_house();
     print_refusals();
 }

@@ -12,10 +12,17 @@ mod settings;
 
 pub use settings::Settings;
 pub use settings::both;
+pub use settings::is_anchor_length;
 pub use settings::is_between;
+pub use settings::is_hash_width;
+pub use settings::is_key;
+pub use settings::is_window_factor;
 
 // The most bits that a string has (specs/Bits.antt: maxBits).
 pub const MAX_BITS: usize = 65536;
+
+// The same, as the states have numbers.
+pub const MOST_BITS: u32 = MAX_BITS as u32;
 
 // Why a call is turned down (01, "Why a call is turned down"). specs/Refusals.antt has the numbers, 1 to 9 in this order.
 pub enum Refusal {
@@ -54,6 +61,13 @@ pub fn refusal_number(e: Refusal) -> u32
         Refusal::OutOfRange => 8,
         Refusal::BufferTooShort => 9,
     }
+}
+
+// A byte as a number of 32 bits.
+pub fn wide(b: u8) -> u32
+    ensures { λ r. ⌜ (r ≡ b) × (r ≤ 255) ⌝ }
+{
+    b as u32
 }
 
 // Whether the bytes are a string of that many bits. Only the length and the last byte are looked at.

@@ -1,7 +1,7 @@
 // The settings, their limits and the house settings.
 ghost use mathlib.Core.Path.{_≡_};
 ghost use mathlib.Core.Bool.{true, false, _&&_};
-ghost use Rattle.strings.specs.SettingLimits.{between, houseSettings, withinLimits};
+ghost use Rattle.strings.specs.SettingLimits.{between, anchorLimits, hashLimits, factorLimits, keyLimits, houseSettings, withinLimits};
 
 // 01, "Strings and settings": anchor m, hash h, window factor k, key, ceiling.
 pub struct Settings {
@@ -52,13 +52,10 @@ impl Settings {
     pub fn is_within_limits(self) -> bool
         ensures { λ r. ⌜ r ≡ withinLimits self ⌝ }
     {
-        let rest = both(is_between(1, self.key, 4294967295), self.ceiling <= 16384);
+        let rest = both(is_key(self.key), self.ceiling <= 16384);
         both(
-            is_between(8, self.m, 64),
-            both(
-                is_between(8, self.h, 32),
-                both(is_between(1, self.k, 8), rest),
-            ),
+            is_anchor_length(self.m),
+            both(is_hash_width(self.h), both(is_window_factor(self.k), rest)),
         )
     }
 }
@@ -78,4 +75,32 @@ pub fn is_between(lo: u32, v: u32, hi: u32) -> bool
     ensures { λ r. ⌜ r ≡ between lo v hi ⌝ }
 {
     both(lo <= v, v <= hi)
+}
+
+// Whether m is within its limits.
+pub fn is_anchor_length(m: u32) -> bool
+    ensures { λ r. ⌜ r ≡ anchorLimits m ⌝ }
+{
+    is_between(8, m, 64)
+}
+
+// Whether h is within its limits.
+pub fn is_hash_width(h: u32) -> bool
+    ensures { λ r. ⌜ r ≡ hashLimits h ⌝ }
+{
+    is_between(8, h, 32)
+}
+
+// Whether k is within its limits.
+pub fn is_window_factor(k: u32) -> bool
+    ensures { λ r. ⌜ r ≡ factorLimits k ⌝ }
+{
+    is_between(1, k, 8)
+}
+
+// Whether the key is within its limits.
+pub fn is_key(key: u32) -> bool
+    ensures { λ r. ⌜ r ≡ keyLimits key ⌝ }
+{
+    is_between(1, key, 4294967295)
 }

@@ -42,17 +42,23 @@ called c =
 keeps-string-rule-requires : tie.Need-keeps-string-rule-requires
 keeps-string-rule-requires c κs = search needs
 
+pack-refusal-requires : tie.Need-pack-refusal-requires
+pack-refusal-requires c κs = search needs
+
 returns : tie.Need-returns
-returns c = holder-bad-string _ _ _ _ _ (sym (c .before .keeps-string-rule .ensures) ∙ not-true _ (c .if1 .taken))
+returns c = holder-bad-string _ _ _ _ _ (c .pack-refusal .ensures) (sym (c .before .before .keeps-string-rule .ensures) ∙ not-true _ (c .before .if1 .taken))
 
 holds-holder-requires : tie.Need-holds-holder-requires
 holds-holder-requires c κs = search needs
+
+pack-refusal-requires-2 : tie.Need-pack-refusal-requires-2
+pack-refusal-requires-2 c κs = search needs
 
 same-length : tie.Need-same-length
 same-length c = search needs
 
 returns-2 : tie.Need-returns-2
-returns-2 c = holder-no-state _ _ _ _ _ (string-kept (c .before .before .before)) (sym (c .before .holds-holder .ensures) ∙ not-true _ (c .if2 .taken))
+returns-2 c = holder-no-state _ _ _ _ _ (c .pack-refusal2 .ensures) (string-kept (c .before .before .before .before)) (sym (c .before .before .holds-holder .ensures) ∙ not-true _ (c .before .if2 .taken))
 
 read-holder-requires : tie.Need-read-holder-requires
 read-holder-requires c κs = holder-long _ (state-held (c .before))
@@ -63,8 +69,8 @@ holder-call-requires c κs = search needs
 enum-known-answer : tie.Need-enum-known-answer
 enum-known-answer c = search needs
 
-pack-refusal-requires : tie.Need-pack-refusal-requires
-pack-refusal-requires c κs = search needs
+pack-refusal-requires-3 : tie.Need-pack-refusal-requires-3
+pack-refusal-requires-3 c κs = search needs
 
 enum-known-answer-2 : tie.Need-enum-known-answer-2
 enum-known-answer-2 c = search needs
@@ -82,7 +88,7 @@ same-length-3 : tie.Need-same-length-3
 same-length-3 c = search needs
 
 returns-3 : tie.Need-returns-3
-returns-3 c = answer-declined (called (c .before .before .before .before .before .before)) (c .before .before .answer .given .1) (c .pack-refusal .ensures)
+returns-3 c = answer-declined (called (c .before .before .before .before .before .before)) (c .before .before .answer .given .1) (c .pack-refusal3 .ensures)
 
 same-length-4 : tie.Need-same-length-4
 same-length-4 c = search needs
@@ -98,14 +104,16 @@ lo-holder-answer-spec =
     tie.close
     (tie.spec
     keeps-string-rule-requires
+    pack-refusal-requires
     returns
     holds-holder-requires
+    pack-refusal-requires-2
     same-length
     returns-2
     read-holder-requires
     holder-call-requires
     enum-known-answer
-    pack-refusal-requires
+    pack-refusal-requires-3
     enum-known-answer-2
     write-holder-requires
     mul-result

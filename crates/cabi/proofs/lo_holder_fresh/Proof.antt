@@ -7,8 +7,11 @@ use borrow.Author.Needs.{needs}
 use Rattle.cabi.proofs.lo_holder_fresh.Statement.{statement}
 use Rattle.cabi.proofs.lo_holder_fresh.Tie as tie
 
+pack-refusal-requires : tie.Need-pack-refusal-requires
+pack-refusal-requires c κs = search needs
+
 returns : tie.Need-returns
-returns c = fresh-short _ (c .if1 .taken)
+returns c = fresh-short _ (c .pack-refusal .ensures) (c .before .if1 .taken)
 
 fresh-holder-requires : tie.Need-fresh-holder-requires
 fresh-holder-requires c κs = search needs
@@ -25,4 +28,4 @@ returns-2 c =
 
 pub lo-holder-fresh-spec : {M : Type 1} → statement M
 lo-holder-fresh-spec =
-    tie.close (tie.spec returns fresh-holder-requires write-holder-requires same-length returns-2)
+    tie.close (tie.spec pack-refusal-requires returns fresh-holder-requires write-holder-requires same-length returns-2)

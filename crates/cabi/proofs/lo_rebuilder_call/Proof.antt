@@ -45,17 +45,23 @@ called c =
 keeps-string-rule-requires : tie.Need-keeps-string-rule-requires
 keeps-string-rule-requires c κs = search needs
 
+pack-refusal-requires : tie.Need-pack-refusal-requires
+pack-refusal-requires c κs = search needs
+
 returns : tie.Need-returns
-returns c = call-bad-string _ _ _ _ _ _ _ (sym (c .before .keeps-string-rule .ensures) ∙ not-true _ (c .if1 .taken))
+returns c = call-bad-string _ _ _ _ _ _ _ (c .pack-refusal .ensures) (sym (c .before .before .keeps-string-rule .ensures) ∙ not-true _ (c .before .if1 .taken))
 
 holds-rebuilder-requires : tie.Need-holds-rebuilder-requires
 holds-rebuilder-requires c κs = search needs
+
+pack-refusal-requires-2 : tie.Need-pack-refusal-requires-2
+pack-refusal-requires-2 c κs = search needs
 
 same-length : tie.Need-same-length
 same-length c = search needs
 
 returns-2 : tie.Need-returns-2
-returns-2 c = call-no-state _ _ _ _ _ _ _ (string-kept (c .before .before .before)) (sym (c .before .holds-rebuilder .ensures) ∙ not-true _ (c .if2 .taken))
+returns-2 c = call-no-state _ _ _ _ _ _ _ (c .pack-refusal2 .ensures) (string-kept (c .before .before .before .before)) (sym (c .before .before .holds-rebuilder .ensures) ∙ not-true _ (c .before .if2 .taken))
 
 read-rebuilder-requires : tie.Need-read-rebuilder-requires
 read-rebuilder-requires c κs = rebuilder-long _ (state-held (c .before))
@@ -66,8 +72,8 @@ rebuilder-call-requires c κs = search needs
 enum-known-answer : tie.Need-enum-known-answer
 enum-known-answer c = search needs
 
-pack-refusal-requires : tie.Need-pack-refusal-requires
-pack-refusal-requires c κs = search needs
+pack-refusal-requires-3 : tie.Need-pack-refusal-requires-3
+pack-refusal-requires-3 c κs = search needs
 
 enum-told : tie.Need-enum-told
 enum-told c = search needs
@@ -91,7 +97,7 @@ same-length-4 : tie.Need-same-length-4
 same-length-4 c = search needs
 
 returns-3 : tie.Need-returns-3
-returns-3 c = call-declined (called (c .before .before .before .before .before .before .before .before .before)) (c .before .before .answer .given .1) (c .pack-refusal .ensures)
+returns-3 c = call-declined (called (c .before .before .before .before .before .before .before .before .before)) (c .before .before .answer .given .1) (c .pack-refusal3 .ensures)
 
 same-length-5 : tie.Need-same-length-5
 same-length-5 c = search needs
@@ -132,14 +138,16 @@ lo-rebuilder-call-spec =
     tie.close
     (tie.spec
     keeps-string-rule-requires
+    pack-refusal-requires
     returns
     holds-rebuilder-requires
+    pack-refusal-requires-2
     same-length
     returns-2
     read-rebuilder-requires
     rebuilder-call-requires
     enum-known-answer
-    pack-refusal-requires
+    pack-refusal-requires-3
     enum-told
     keep-requires
     enum-known-answer-2

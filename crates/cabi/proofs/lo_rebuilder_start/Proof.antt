@@ -45,17 +45,26 @@ new-requires c κs = search needs
 is-within-limits-requires : tie.Need-is-within-limits-requires
 is-within-limits-requires c κs = search needs
 
+pack-refusal-requires : tie.Need-pack-refusal-requires
+pack-refusal-requires c κs = search needs
+
 returns : tie.Need-returns
-returns c = start-bad-setting _ _ _ _ _ (ap withinLimits (sym (c .before .before .new .ensures)) ∙ sym (c .before .is-within-limits .ensures) ∙ not-true _ (c .if1 .taken))
+returns c = start-bad-setting _ _ _ _ _ (c .pack-refusal .ensures) (ap withinLimits (sym (c .before .before .before .new .ensures)) ∙ sym (c .before .before .is-within-limits .ensures) ∙ not-true _ (c .before .if1 .taken))
 
 keeps-string-rule-requires : tie.Need-keeps-string-rule-requires
 keeps-string-rule-requires c κs = search needs
 
+pack-refusal-requires-2 : tie.Need-pack-refusal-requires-2
+pack-refusal-requires-2 c κs = search needs
+
 returns-2 : tie.Need-returns-2
-returns-2 c = start-bad-string _ _ _ _ _ (limits-kept (c .before .before)) (sym (c .before .keeps-string-rule .ensures) ∙ not-true _ (c .if2 .taken))
+returns-2 c = start-bad-string _ _ _ _ _ (c .pack-refusal2 .ensures) (limits-kept (c .before .before .before)) (sym (c .before .before .keeps-string-rule .ensures) ∙ not-true _ (c .before .if2 .taken))
+
+pack-refusal-requires-3 : tie.Need-pack-refusal-requires-3
+pack-refusal-requires-3 c κs = search needs
 
 returns-3 : tie.Need-returns-3
-returns-3 c = start-short _ _ _ _ _ (limits-kept (c .before .before .before)) (string-kept (c .before)) (c .if3 .taken)
+returns-3 c = start-short _ _ _ _ _ (limits-kept (c .before .before .before .before)) (string-kept (c .before .before)) (c .pack-refusal3 .ensures) (c .before .if3 .taken)
 
 rebuilder-start-requires : tie.Need-rebuilder-start-requires
 rebuilder-start-requires c κs = search needs
@@ -63,8 +72,8 @@ rebuilder-start-requires c κs = search needs
 enum-known-answer : tie.Need-enum-known-answer
 enum-known-answer c = search needs
 
-pack-refusal-requires : tie.Need-pack-refusal-requires
-pack-refusal-requires c κs = search needs
+pack-refusal-requires-4 : tie.Need-pack-refusal-requires-4
+pack-refusal-requires-4 c κs = search needs
 
 enum-known-answer-2 : tie.Need-enum-known-answer-2
 enum-known-answer-2 c = search needs
@@ -79,7 +88,7 @@ same-length : tie.Need-same-length
 same-length c = search needs
 
 returns-4 : tie.Need-returns-4
-returns-4 c = start-declined (called (c .before .before .before .before .before .before)) (c .before .before .answer .given .1) (c .pack-refusal .ensures)
+returns-4 c = start-declined (called (c .before .before .before .before .before .before)) (c .before .before .answer .given .1) (c .pack-refusal4 .ensures)
 
 same-length-2 : tie.Need-same-length-2
 same-length-2 c = search needs
@@ -96,13 +105,16 @@ lo-rebuilder-start-spec =
     (tie.spec
     new-requires
     is-within-limits-requires
+    pack-refusal-requires
     returns
     keeps-string-rule-requires
+    pack-refusal-requires-2
     returns-2
+    pack-refusal-requires-3
     returns-3
     rebuilder-start-requires
     enum-known-answer
-    pack-refusal-requires
+    pack-refusal-requires-4
     enum-known-answer-2
     write-rebuilder-requires
     mul-result

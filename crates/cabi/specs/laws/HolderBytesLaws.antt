@@ -14,7 +14,7 @@ use Rattle.strings.specs.Refusals.{refusalNumber}
 use Rattle.strings.specs.Results.{Result, refusal, value}
 use Rattle.strings.specs.laws.ResultLaws.{no-value, value-is, unless-passed}
 use Rattle.strings.specs.declared.Refusal.{Refusal}
-use Rattle.strings.specs.declared.Refusal.the-variants.{BadString, OutOfTurn}
+use Rattle.strings.specs.declared.Refusal.the-variants.{BadString, OutOfTurn, BufferTooShort}
 use Rattle.codes.specs.Syndrome.{syndrome}
 use Rattle.codes.specs.Hash.{hash}
 use Rattle.messages.specs.declared.Question.{Question}
@@ -38,9 +38,9 @@ use Rattle.cabi.specs.Packing.{packed}
 use Rattle.cabi.specs.Calls.{holderMade, holderOnBytes, HolderLeft, holderLeft, holderBytesOutcome}
 
 -- ---- a fresh holder
-pub fresh-short : (s : List ℕ) → length s < holderSize → record { result = 9; state = s } ≡ holderMade s
+pub fresh-short : (s : List ℕ) {r : ℕ} → r ≡ packed (refusal (refusalNumber BufferTooShort)) → length s < holderSize → record { result = r; state = s } ≡ holderMade s
 unfolding holderMade packed
-fresh-short s h = rw (lt-leb holderSize (length s) h) refl
+fresh-short s p h = rw (p, lt-leb holderSize (length s) h) refl
 
 pub fresh-whole : (s t : List ℕ) → holderSize ≤ length s → t ≡ holderBytes freshHolder ++ drop holderSize s → record { result = 0; state = t } ≡ holderMade s
 unfolding holderMade packed
@@ -81,15 +81,15 @@ reply-most st x bits msg capacity r e =
 
 -- ---- the returns
 module _ (s x : List ℕ) (bits : ℕ) (msg reply : List ℕ) where
-  pub holder-bad-string : stringRule x bits ≡ false
-      → record { result = 2; state = s; reply = reply } ≡ holderLeft s reply (holderOnBytes s x bits msg (length reply))
+  pub holder-bad-string : {r : ℕ} → r ≡ packed (refusal (refusalNumber BadString)) → stringRule x bits ≡ false
+      → record { result = r; state = s; reply = reply } ≡ holderLeft s reply (holderOnBytes s x bits msg (length reply))
   unfolding holderOnBytes packed
-  holder-bad-string e = rw e refl
+  holder-bad-string p e = rw (p, e) refl
 
-  pub holder-no-state : stringRule x bits ≡ true → isHolder s ≡ false
-      → record { result = 3; state = s; reply = reply } ≡ holderLeft s reply (holderOnBytes s x bits msg (length reply))
+  pub holder-no-state : {r : ℕ} → r ≡ packed (refusal (refusalNumber OutOfTurn)) → stringRule x bits ≡ true → isHolder s ≡ false
+      → record { result = r; state = s; reply = reply } ≡ holderLeft s reply (holderOnBytes s x bits msg (length reply))
   unfolding holderOnBytes packed
-  holder-no-state e f = rw (e, f) refl
+  holder-no-state p e f = rw (p, e, f) refl
 
   pub holder-called : stringRule x bits ≡ true → isHolder s ≡ true → holderOnBytes s x bits msg (length reply) ≡ holderCall (holderOf s) x bits msg (length reply)
   unfolding holderOnBytes

@@ -13,6 +13,7 @@ use Rattle.strings.specs.Refusals.{refusalNumber}
 use Rattle.strings.specs.Results.{Result, refusal, value}
 use Rattle.strings.specs.laws.ResultLaws.{no-value, value-is}
 use Rattle.strings.specs.declared.Refusal.{Refusal}
+use Rattle.strings.specs.declared.Refusal.the-variants.{BadSetting, BadString, OutOfTurn, BufferTooShort}
 use Rattle.messages.specs.declared.Question.{Question}
 use Rattle.messages.specs.declared.Question.the-variants.{AskOpen, AskHash, AskSyndrome, AskBits}
 use Rattle.messages.specs.Numbers.{number}
@@ -71,15 +72,15 @@ taken-small st y bits msg capacities t e =
 -- ---- the returns of the call
 
 module _ (s y : List ℕ) (bits : ℕ) (msg string sheet question : List ℕ) where
-  pub call-bad-string : stringRule y bits ≡ false
-      → record { result = 2; state = s; string = string; sheet = sheet; question = question } ≡ rebuilderBytesOutcome s y bits msg string sheet question
+  pub call-bad-string : {r : ℕ} → r ≡ packed (refusal (refusalNumber BadString)) → stringRule y bits ≡ false
+      → record { result = r; state = s; string = string; sheet = sheet; question = question } ≡ rebuilderBytesOutcome s y bits msg string sheet question
   unfolding rebuilderOnBytes packed
-  call-bad-string e = rw e refl
+  call-bad-string p e = rw (p, e) refl
 
-  pub call-no-state : stringRule y bits ≡ true → isRebuilder s ≡ false
-      → record { result = 3; state = s; string = string; sheet = sheet; question = question } ≡ rebuilderBytesOutcome s y bits msg string sheet question
+  pub call-no-state : {r : ℕ} → r ≡ packed (refusal (refusalNumber OutOfTurn)) → stringRule y bits ≡ true → isRebuilder s ≡ false
+      → record { result = r; state = s; string = string; sheet = sheet; question = question } ≡ rebuilderBytesOutcome s y bits msg string sheet question
   unfolding rebuilderOnBytes packed
-  call-no-state e f = rw (e, f) refl
+  call-no-state p e f = rw (p, e, f) refl
 
   pub rebuilder-called : stringRule y bits ≡ true → isRebuilder s ≡ true
       → rebuilderOnBytes s y bits msg (capacitiesIn string sheet question) ≡ rebuilderCall (rebuilderOf s) y bits msg (capacitiesIn string sheet question)
@@ -200,21 +201,21 @@ module _ (k : RebuilderCalled) where
 
 -- ---- the returns of the start
 module _ (S : Settings) (y : List ℕ) (bits : ℕ) (s question : List ℕ) where
-  pub start-bad-setting : withinLimits S ≡ false
-      → record { result = 1; state = s; question = question } ≡ startLeft s question (startOnBytes S y bits (length s) (length question))
+  pub start-bad-setting : {r : ℕ} → r ≡ packed (refusal (refusalNumber BadSetting)) → withinLimits S ≡ false
+      → record { result = r; state = s; question = question } ≡ startLeft s question (startOnBytes S y bits (length s) (length question))
   unfolding startOnBytes packed
-  start-bad-setting e = rw e refl
+  start-bad-setting p e = rw (p, e) refl
 
-  pub start-bad-string : withinLimits S ≡ true → stringRule y bits ≡ false
-      → record { result = 2; state = s; question = question } ≡ startLeft s question (startOnBytes S y bits (length s) (length question))
+  pub start-bad-string : {r : ℕ} → r ≡ packed (refusal (refusalNumber BadString)) → withinLimits S ≡ true → stringRule y bits ≡ false
+      → record { result = r; state = s; question = question } ≡ startLeft s question (startOnBytes S y bits (length s) (length question))
   unfolding startOnBytes packed
-  start-bad-string e f = rw (e, f) refl
+  start-bad-string p e f = rw (p, e, f) refl
 
   module _ (e : withinLimits S ≡ true) (f : stringRule y bits ≡ true) where
-    pub start-short : length s < rebuilderSize
-        → record { result = 9; state = s; question = question } ≡ startLeft s question (startOnBytes S y bits (length s) (length question))
+    pub start-short : {r : ℕ} → r ≡ packed (refusal (refusalNumber BufferTooShort)) → length s < rebuilderSize
+        → record { result = r; state = s; question = question } ≡ startLeft s question (startOnBytes S y bits (length s) (length question))
     unfolding startOnBytes packed
-    start-short h = rw (e, f, lt-leb rebuilderSize (length s) h) refl
+    start-short p h = rw (p, e, f, lt-leb rebuilderSize (length s) h) refl
 
     started : rebuilderSize ≤ length s → startOnBytes S y bits (length s) (length question) ≡ rebuilderStart S y bits (length question)
     unfolding startOnBytes

@@ -1,5 +1,5 @@
 -- Laws of the anchor search.
-use mathlib.Core.Path.{_≡_, refl, subst, sym, ap, _∙_}
+use mathlib.Core.Path.{_≡_, refl, subst, sym, ap, ap₂, _∙_}
 use mathlib.Core.Bool.{Bool, true, false, cond, _&&_, not, Bool·beq}
 use mathlib.Core.List.{List}
 use mathlib.Core.Option.{Option, none, some}
@@ -13,6 +13,7 @@ use borrow.Author.Count.{below-more}
 use borrow.Author.Tests.{leb-true, leb-false, le-leb, lt-leb}
 use Rattle.strings.specs.Bits.{range, bitAt, sameBits, maxBits}
 use Rattle.strings.specs.StringRule.{stringRule}
+use Rattle.strings.specs.SettingLimits.{anchorLimits, factorLimits}
 use Rattle.strings.specs.laws.RuleLaws.{rule-is}
 use Rattle.strings.specs.laws.RangeLaws.{range-length, range-at, range-equal, range-part, same-refl, same-is}
 use Rattle.strings.specs.laws.Tests.{true-false, and-left, and-right}
@@ -294,22 +295,9 @@ module _ (start len end : ℕ) where
       go (no l) = lt-leb start (end - len) (omega arith) ∙ sym (lt-leb (start + len) end (omega arith))
 
 module _ (m k : ℕ) where
-  pub settings-m-low : m < 8 → false ≡ anchorSettings m k
+  pub anchor-settings-are : (a b r : Bool) → a ≡ anchorLimits m → b ≡ factorLimits k → r ≡ (a && b) → r ≡ anchorSettings m k
   unfolding anchorSettings
-  settings-m-low h = rw (lt-leb 8 m h) refl
-
-  pub settings-m-high : 8 ≤ m → 64 < m → false ≡ anchorSettings m k
-  unfolding anchorSettings
-  settings-m-high g h = rw (le-leb 8 m g, lt-leb m 64 h) refl
-
-  module _ (g : 8 ≤ m) (h : m ≤ 64) where
-    pub settings-k-low : k < 1 → false ≡ anchorSettings m k
-    unfolding anchorSettings
-    settings-k-low l = rw (le-leb 8 m g, le-leb m 64 h, lt-leb 1 k l) refl
-
-    pub settings-k-high : 1 ≤ k → leb k 8 ≡ anchorSettings m k
-    unfolding anchorSettings
-    settings-k-high l = rw (le-leb 8 m g, le-leb m 64 h, le-leb 1 k l) refl
+  anchor-settings-are a b r e f g = g ∙ ap₂ _&&_ e f
 
 module _ (bits start q p s m : ℕ) (piece : Bool) (e : piece ≡ leb (start + q) bits) where
   pub range-piece : piece ≡ false → false ≡ anchorRange bits start q p s m

@@ -38,7 +38,7 @@ use Rattle.ends.specs.declared.How.the-variants.{ByBits}
 use Rattle.ends.specs.declared.Rebuilder.{Rebuilder}
 use Rattle.ends.specs.declared.SheetChange.the-variants.{NoRow, OneRow}
 use Rattle.strings.specs.SettingLimits.{withinLimits}
-use Rattle.ends.specs.Segments.{row, asks}
+use Rattle.ends.specs.Segments.{row, howNumber, asks}
 use Rattle.ends.specs.Runs.{sizeOf}
 use Rattle.ends.specs.laws.Shape.{ProperFor, Inside, sizes, size-bits}
 use Rattle.strings.specs.laws.SettingLaws.{limits-is}
@@ -58,7 +58,7 @@ use Rattle.ends.specs.code.StateCode.{Usable, Counts}
 use Rattle.ends.specs.code.SoundLaws.{sound-counts}
 use Rattle.ends.specs.RebuilderOutcome.{RebuilderSaid, saidRebuilder, leavesRebuilder, noRebuilder, saidStart, leavesStart}
 use Rattle.ends.specs.code.RebuilderParts.{OutIs, Acting, AsksBits, RepairDue, putsIn, takesOut, bitsOfStage, stepTaken, Opening, WholeDue, BitsDue, dueLength, Due, enoughForAnswer, heardStep, turnedDown}
-use Rattle.ends.specs.code.RebuilderCodeLaws.{out-said, step-said, size-most, question-short}
+use Rattle.ends.specs.code.RebuilderCodeLaws.{out-to, out-said, step-said, size-most, question-short}
 use Rattle.ends.specs.declared.Stage.{Stage}
 use Rattle.ends.specs.declared.Stage.the-variants.{Hashing, PuttingIn, TakingOut, Anchor, AllBits}
 use Rattle.ends.specs.declared.Phase.{Phase}
@@ -82,14 +82,15 @@ module _ (st : Rebuilder) (size capacity : ℕ) (k : WholeDue st size capacity) 
   unfolding wholeStep
   whole-next = whole-sound st size [] whole-framed whole-now (k .short) .0
 
-  pub whole-said : {s : Rebuilder} → s ≡ wholeState st size → (y bits buf : List ℕ) {r : RebuilderOut} {buf′ q q′ : List ℕ}
-      → buf′ ≡ writeBits buf 0 (range bits 0 (st .n)) → OutIs r s (OneRow (st .rows) (row 0 (st .n) ByBits)) q q′
+  pub whole-said : {s : Rebuilder} → s ≡ wholeState st size → (y bits buf : List ℕ) {number : ℕ} {r : RebuilderOut} {buf′ q q′ : List ℕ}
+      → buf′ ≡ writeBits buf 0 (range bits 0 (st .n)) → number ≡ howNumber ByBits
+      → OutIs r s (OneRow (st .rows) (record { start = 0; len = st .n; how = number })) q q′
       → saidRebuilder r buf′ q′ ≡ leavesRebuilder st buf q (stepTaken (stepOf st y size (bitsAnswer (range bits 0 (st .n)))))
   unfolding wholeStep
-  whole-said g y bits buf {r} {buf′} {q} {q′} w o =
+  whole-said g y bits buf {r = r} {q = q} {q′ = q′} w i o =
       let l = range bits 0 (st .n) in
       step-said st buf q (step-whole st y size (bitsAnswer l) (k .phase))
-      (out-said st (wholeStep st size l) buf (subst (λ (z : Rebuilder). OutIs r z (OneRow (st .rows) (row 0 (st .n) ByBits)) q q′) g o) w)
+      (out-said st (wholeStep st size l) buf (out-to g (ap (λ (h : ℕ). OneRow (st .rows) (record { start = 0; len = st .n; how = h })) i) o) w)
 
 -- ---- the opening's answer
 module _ (st : Rebuilder) (n capacity : ℕ) (k : Opening st n capacity) where

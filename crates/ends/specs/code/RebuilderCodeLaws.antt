@@ -233,7 +233,7 @@ module _ (st : Rebuilder) (size capacity : ℕ) (k : Acting st size capacity) wh
         record { usable = usable; some = k .some; few = few; in-x = f .inside; in-y = g .placed; x-most = omega arith; y-most = omega arith }
 
 -- ---- what the parts give
-out-to : {r : RebuilderOut} {s s′ : Rebuilder} {k k′ : SheetChange} {q q′ : List ℕ} → s ≡ s′ → k ≡ k′ → OutIs r s k q q′ → OutIs r s′ k′ q q′
+pub out-to : {r : RebuilderOut} {s s′ : Rebuilder} {k k′ : SheetChange} {q q′ : List ℕ} → s ≡ s′ → k ≡ k′ → OutIs r s k q q′ → OutIs r s′ k′ q q′
 out-to {r} {s} {s′} {k} {k′} {q} {q′} e f o = subst (λ (z : Rebuilder). OutIs r z k′ q q′) e (subst (λ (z : SheetChange). OutIs r s z q q′) f o)
 
 pub settled-out : (st : Rebuilder) (size : ℕ) (how : How) {t : Piece} {one two s : Rebuilder} {number : ℕ} {r : RebuilderOut} {q q′ : List ℕ}
@@ -247,12 +247,12 @@ pub retried-out : (st : Rebuilder) (size : ℕ) {one s : Rebuilder} {k : SheetCh
     → one ≡ retried st → s ≡ tallied one size 0 → OutIs r s k q q′ → OutIs r (tallied (retried st) size 0) k q q′
 retried-out st size a b o = out-to (b ∙ ap (λ (z : Rebuilder). tallied z size 0) a) refl o
 
-pub split-out : (st : Rebuilder) (size s r : ℕ) {t : Piece} {one next : Rebuilder} {o : RebuilderOut} {q q′ : List ℕ}
-    → t ≡ top st → one ≡ splitAt st s r → next ≡ tallied one size 1
-    → OutIs o next (AddRow (st .rows) (record { start = t .x + s; len = st .settings .m; how = 4 })) q q′
+pub split-out : (st : Rebuilder) (size s r : ℕ) {t : Piece} {one next : Rebuilder} {number : ℕ} {o : RebuilderOut} {q q′ : List ℕ}
+    → t ≡ top st → one ≡ splitAt st s r → next ≡ tallied one size 1 → number ≡ howNumber ByAnchor
+    → OutIs o next (AddRow (st .rows) (record { start = t .x + s; len = st .settings .m; how = number })) q q′
     → OutIs o (tallied (splitAt st s r) size 1) (AddRow (st .rows) (row (top st .x + s) (st .settings .m) ByAnchor)) q q′
-split-out st size s r a b c o =
-    out-to (c ∙ ap (λ (z : Rebuilder). tallied z size 1) b) (ap (λ (z : Piece). AddRow (st .rows) (record { start = z .x + s; len = st .settings .m; how = 4 })) a) o
+split-out st size s r a b c n o =
+    out-to (c ∙ ap (λ (z : Rebuilder). tallied z size 1) b) (ap₂ (λ (z : Piece) (i : ℕ). AddRow (st .rows) (record { start = z .x + s; len = st .settings .m; how = i })) a n) o
 
 -- ---- from the parts to the whole
 pub out-said : (st : Rebuilder) (k : Step) (s : List ℕ) {r : RebuilderOut} {s′ q q′ : List ℕ} → OutIs r (k .state) (k .sheet) q q′ → s′ ≡ stringAfter s (k .string) → saidRebuilder r s′ q′ ≡ leavesRebuilder st s q (stepTaken k)

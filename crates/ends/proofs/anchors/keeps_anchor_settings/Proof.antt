@@ -1,23 +1,21 @@
 -- `anchors::keeps_anchor_settings` meets its contract. Assumes nothing.
-use Rattle.ends.specs.code.AnchorSearchLaws.{settings-m-low, settings-m-high, settings-k-low, settings-k-high}
+use Rattle.ends.specs.code.AnchorSearchLaws.{anchor-settings-are}
+use borrow.Author.Needs.{needs}
 use Rattle.ends.proofs.anchors.keeps_anchor_settings.Statement.{statement}
 use Rattle.ends.proofs.anchors.keeps_anchor_settings.Tie as tie
 
+is-anchor-length-requires : tie.Need-is-anchor-length-requires
+is-anchor-length-requires c κs = search needs
+
+is-window-factor-requires : tie.Need-is-window-factor-requires
+is-window-factor-requires c κs = search needs
+
+both-requires : tie.Need-both-requires
+both-requires c κs = search needs
+
 returns : tie.Need-returns
-returns c = let args = c .before .args in settings-m-low (args .m) (args .k) (c .if1 .taken)
-
-returns-2 : tie.Need-returns-2
-returns-2 c = let args = c .before .before .args in settings-m-high (args .m) (args .k) (c .before .if1 .left) (c .if2 .taken)
-
-returns-3 : tie.Need-returns-3
-returns-3 c =
-    let args = c .before .before .before .args in
-    settings-k-low (args .m) (args .k) (c .before .before .if1 .left) (c .before .if2 .left) (c .if3 .taken)
-
-returns-4 : tie.Need-returns-4
-returns-4 c =
-    let args = c .before .before .before .args in
-    settings-k-high (args .m) (args .k) (c .before .before .if1 .left) (c .before .if2 .left) (c .if3 .left)
+returns c = anchor-settings-are (c .before .before .before .args .m) (c .before .before .before .args .k) (c .before .before .is-anchor-length .result) (c .before .is-window-factor .result) (c .both .result) (c .before .before .is-anchor-length .ensures) (c .before .is-window-factor .ensures) (c .both .ensures)
 
 pub keeps-anchor-settings-spec : {M : Type 1} → statement M
-keeps-anchor-settings-spec = tie.close (tie.spec returns returns-2 returns-3 returns-4)
+keeps-anchor-settings-spec =
+    tie.close (tie.spec is-anchor-length-requires is-window-factor-requires both-requires returns)

@@ -15,9 +15,12 @@ copy-bits-requires c κs =
     let text = whole-text (s .args .st) _ _ (s .pre .0) in
     (text _ (s .pre .1 .1), text _ (s .pre .1 .0))
 
+how-number-requires : tie.Need-how-number-requires
+how-number-requires c κs = search needs
+
 finish-requires : tie.Need-finish-requires
 finish-requires c κs =
-    let at-whole-state = c .before .before .before .before .before .before in
+    let at-whole-state = c .before .before .before .before .before .before .before in
     let s = at-whole-state .before .before .before .before in
     (rw (at-whole-state .whole-state .ensures) (whole-next (s .args .st) _ _ (s .pre .0)), s .pre .0 .enough)
 
@@ -29,10 +32,11 @@ same-length-2 c = search needs
 
 returns : tie.Need-returns
 returns c = λ y.
-    let at-copy-bits = c .before .before .before .before .before .before in
+    let at-how-number = c .before .before .before .before in
+    let at-copy-bits = at-how-number .before .before .before in
     let at-whole-state = at-copy-bits .before .before .before in
     let s = at-whole-state .before .before .before .before in
-    whole-said (s .args .st) _ _ (s .pre .0) (at-whole-state .whole-state .ensures) y _ _ (at-copy-bits .copy-bits .ensures) (c .before .before .finish .ensures)
+    whole-said (s .args .st) _ _ (s .pre .0) (at-whole-state .whole-state .ensures) y _ _ (at-copy-bits .copy-bits .ensures) (at-how-number .how-number .ensures) (c .before .before .finish .ensures)
 
 pub take-whole-spec : {M : Type 1} → statement M
 take-whole-spec =
@@ -41,6 +45,7 @@ take-whole-spec =
     whole-state-requires
     cast-copy-bits
     copy-bits-requires
+    how-number-requires
     finish-requires
     same-length
     same-length-2

@@ -37,7 +37,7 @@ returns-4 c =
     let if1 = c .before .before .before .before .if1 in
     let if2 = c .before .before .if2 in
     let if3 = c .before .if3 in
-    ap (λ (n : ℕ). value (a .v + 268435456 * n, a .i + 1)) (c .wide .ensures) ∙ sym (read-fifth _ (a .i) 268435456 (a .v) 0 (omega arith) (if1 .left) (if2 .left) (if3 .left))
+    ap (λ (n : ℕ). value (a .v + 268435456 * n, a .i + 1)) (c .wide .ensures .0) ∙ sym (read-fifth _ (a .i) 268435456 (a .v) 0 (omega arith) (if1 .left) (if2 .left) (if3 .left))
 
 pub read-fifth-spec : {M : Type 1} → statement M
 read-fifth-spec =

@@ -21,14 +21,14 @@ turn3 : (c : tie.After-wide3 Inv-loop μ-loop)
     (l .w * c .wide3 .result < 268435456) × (l .v + l .w * c .wide3 .result < 268435456) × (l .v + l .w * c .wide3 .result < l .w * 128) × (l .w * 128 ≡ weight (l .k - 1))
 turn3 c =
     let l = c .before .before .before .before .before .before .loop in
-    turn-fits (l .k) (l .w) (l .v) (c .wide3 .result) (search needs) (search needs) (l .inv .2) (l .inv .3) (omega (arith, c .wide3 .ensures))
+    turn-fits (l .k) (l .w) (l .v) (c .wide3 .result) (search needs) (search needs) (l .inv .2) (l .inv .3) (omega (arith, c .wide3 .ensures .0))
 
 turn4 : (c : tie.After-wide4 Inv-loop μ-loop)
     → let l = c .before .before .before .before .before .before .loop in
     (l .w * c .wide4 .result < 268435456) × (l .v + l .w * c .wide4 .result < 268435456) × (l .v + l .w * c .wide4 .result < l .w * 128) × (l .w * 128 ≡ weight (l .k - 1))
 turn4 c =
     let l = c .before .before .before .before .before .before .loop in
-    turn-fits (l .k) (l .w) (l .v) (c .wide4 .result) (search needs) (search needs) (l .inv .2) (l .inv .3) (omega (arith, c .wide4 .ensures, c .before .before .before .shared-slice-known3 .given (l .i)))
+    turn-fits (l .k) (l .w) (l .v) (c .wide4 .result) (search needs) (search needs) (l .inv .2) (l .inv .3) (omega (arith, c .wide4 .ensures .0, c .before .before .before .shared-slice-known3 .given (l .i)))
 
 returns : tie.Need-returns Inv-loop μ-loop
 returns c = sym (read-none _ _ (c .if1 .taken))
@@ -47,7 +47,7 @@ returns-2 c =
     let a = c .before .before .before .before .before .args in
     let if1 = c .before .before .before .if1 in
     let if2 = c .before .if2 in
-    ap (λ (n : ℕ). value (n, a .at + 1)) (c .wide .ensures) ∙ sym (read-short _ (a .at) _ (if1 .left) refl (if2 .taken))
+    ap (λ (n : ℕ). value (n, a .at + 1)) (c .wide .ensures .0) ∙ sym (read-short _ (a .at) _ (if1 .left) refl (if2 .taken))
 
 wide-requires-2 : tie.Need-wide-requires-2 Inv-loop μ-loop
 wide-requires-2 c κs = search needs
@@ -61,7 +61,7 @@ loop-holds c =
     let shared-slice-known2 = c .before .before .shared-slice-known2 in
     let if1 = c .before .before .before .if1 in
     let if2 = c .before .if2 in
-    (omega arith, omega arith, refl, omega (arith, shared-slice-known2 .given (a .at), c .wide2 .ensures), read-first (a .s .now) (a .at) _ (if1 .left) (if2 .left) (c .wide2 .ensures))
+    (omega arith, omega arith, refl, omega (arith, shared-slice-known2 .given (a .at), c .wide2 .ensures .0), read-first (a .s .now) (a .at) _ (if1 .left) (if2 .left) (c .wide2 .ensures .0))
 
 returns-3 : tie.Need-returns-3 Inv-loop μ-loop
 returns-3 c = sym (read-cut _ _ _ _ _ (c .if3 .taken)) ∙ c .before .before .loop .inv .4
@@ -92,7 +92,7 @@ returns-5 c =
     let if4 = c .before .before .if4 in
     let if5 = c .before .if5 in
     let l = loop in
-    ap (λ (n : ℕ). value (l .v + l .w * n, l .i + 1)) (c .wide3 .ensures) ∙ sym (read-last _ (l .k) (l .i) (l .w) (l .v) (loop-test .taken) (if3 .left) (if4 .left) (if5 .taken)) ∙ l .inv .4
+    ap (λ (n : ℕ). value (l .v + l .w * n, l .i + 1)) (c .wide3 .ensures .0) ∙ sym (read-last _ (l .k) (l .i) (l .w) (l .v) (loop-test .taken) (if3 .left) (if4 .left) (if5 .taken)) ∙ l .inv .4
 
 wide-requires-4 : tie.Need-wide-requires-4 Inv-loop μ-loop
 wide-requires-4 c κs = search needs
@@ -130,7 +130,7 @@ loop-again c =
       omega arith,
       t .3,
       t .2,
-      ap (λ (n : ℕ). nextByte (l .k - 1) s (l .i + 1) (l .w * 128) (l .v + l .w * n)) (c .wide4 .ensures)
+      ap (λ (n : ℕ). nextByte (l .k - 1) s (l .i + 1) (l .w * 128) (l .v + l .w * n)) (c .wide4 .ensures .0)
           ∙ sym (read-next s (l .k) (l .i) (l .w) (l .v) (loop-test .taken) (if3 .left) (if4 .left) (if5 .left)) ∙ l .inv .4,
     )
 

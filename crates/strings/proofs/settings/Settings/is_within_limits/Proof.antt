@@ -3,20 +3,20 @@ use borrow.Author.Needs.{needs}
 use Rattle.strings.proofs.settings.Settings.is_within_limits.Statement.{statement}
 use Rattle.strings.proofs.settings.Settings.is_within_limits.Tie as tie
 
-is-between-requires : tie.Need-is-between-requires
-is-between-requires c κs = search needs
+is-key-requires : tie.Need-is-key-requires
+is-key-requires c κs = search needs
 
 both-requires : tie.Need-both-requires
 both-requires c κs = search needs
 
-is-between-requires-2 : tie.Need-is-between-requires-2
-is-between-requires-2 c κs = search needs
+is-anchor-length-requires : tie.Need-is-anchor-length-requires
+is-anchor-length-requires c κs = search needs
 
-is-between-requires-3 : tie.Need-is-between-requires-3
-is-between-requires-3 c κs = search needs
+is-hash-width-requires : tie.Need-is-hash-width-requires
+is-hash-width-requires c κs = search needs
 
-is-between-requires-4 : tie.Need-is-between-requires-4
-is-between-requires-4 c κs = search needs
+is-window-factor-requires : tie.Need-is-window-factor-requires
+is-window-factor-requires c κs = search needs
 
 both-requires-2 : tie.Need-both-requires-2
 both-requires-2 c κs = search needs
@@ -29,17 +29,17 @@ both-requires-4 c κs = search needs
 
 returns : tie.Need-returns
 unfolding withinLimits
-returns c = simp (c .both4 .ensures, c .before .both3 .ensures, c .before .before .both2 .ensures, c .before .before .before .before .before .before .both .ensures, c .before .before .before .before .before .before .before .before .is-between .ensures, c .before .before .before .before .before .is-between2 .ensures, c .before .before .before .before .is-between3 .ensures, c .before .before .before .is-between4 .ensures)
+returns c = simp (c .both4 .ensures, c .before .both3 .ensures, c .before .before .both2 .ensures, c .before .before .before .before .before .before .both .ensures, c .before .before .before .before .before .before .before .before .is-key .ensures, c .before .before .before .before .before .is-anchor-length .ensures, c .before .before .before .before .is-hash-width .ensures, c .before .before .before .is-window-factor .ensures)
 
 pub is-within-limits-spec : {M : Type 1} → statement M
 is-within-limits-spec =
     tie.close
     (tie.spec
-    is-between-requires
+    is-key-requires
     both-requires
-    is-between-requires-2
-    is-between-requires-3
-    is-between-requires-4
+    is-anchor-length-requires
+    is-hash-width-requires
+    is-window-factor-requires
     both-requires-2
     both-requires-3
     both-requires-4
