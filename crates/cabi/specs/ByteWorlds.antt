@@ -6,13 +6,12 @@ use mathlib.Core.List.{List, [], _∷_, _++_}
 use Prim.Native.Nat.{ℕ, _*_, _/_, _%_, _≤_}
 use lib.ListN.{length, take}
 use lib.Dec.{eqb}
-use Rattle.strings.specs.Bits.{atFront}
-use Rattle.strings.specs.Bits.{Bytes}
+use Rattle.strings.specs.Bits.{Bytes, atFront}
 use Rattle.strings.specs.declared.settings.Settings.{Settings}
 use Rattle.messages.specs.Questions.{questionBytes}
 use Rattle.messages.specs.declared.Question.the-variants.{AskOpen}
 use Rattle.ends.specs.Statement.{AfterClaims, HoldersAnswer, LongEnough, OnceEach, Supposed, fixed}
-use Rattle.ends.specs.Worlds.{Call, Lent, World, stepWorld, toHolder, toRebuilder}
+use Rattle.ends.specs.Worlds.{Call, EachBy, Lent, World, WorldOf, afterBy, stepWorld, toHolder, toRebuilder, withHolder, withRebuilder}
 use Rattle.layout.specs.Layout.{holderOf, holderSize, rebuilderOf, rebuilderSize}
 use Rattle.layout.specs.Sheet.{rowsIn}
 use Rattle.cabi.specs.Calls.{HolderLeft, HolderMade, RebuilderLeft, StartLeft, holderBytesOutcome, holderMade, rebuilderBytesOutcome, startBytesOutcome}
@@ -31,15 +30,8 @@ pub record ByteLent : Type 0 where
   pub rebuilder : List ℕ
 
 -- what the calls so far have left in these bytes, and the messages as in ends' World
-pub record ByteWorld : Type 0 where
-  pub holder : List ℕ
-  pub rebuilder : List ℕ
-  pub string : List ℕ
-  pub sheet : List ℕ
-  pub waiting : List ℕ
-  pub earlier : List (List ℕ)
-  pub heard : List (List ℕ)
-  pub taken : List (List ℕ)
+abbrev pub ByteWorld : Type 0
+ByteWorld = WorldOf (List ℕ) (List ℕ) (List ℕ)
 
 -- ---- what a number says that a call returned: the low four bits are a refusal's, or 0; the rest is a length
 abbrev pub joinedBy : (result : ℕ) → List ℕ → List (List ℕ) → List (List ℕ)
@@ -56,41 +48,21 @@ abbrev pub rebuilderDoes : ByteLent → ByteWorld → (message question : List �
 rebuilderDoes c b m question = rebuilderBytesOutcome (b .rebuilder) (c .y) (c .ybits) m (b .string) (b .sheet) question
 
 abbrev pub afterHolderDid : ByteWorld → List ℕ → HolderLeft → ByteWorld
-afterHolderDid b m out = record {
-  holder = out .state;
-  rebuilder = b .rebuilder;
-  string = b .string;
-  sheet = b .sheet;
-  waiting = b .waiting;
-  earlier = b .earlier;
-  heard = joinedBy (out .result) m (b .heard);
-  taken = b .taken;
-}
+afterHolderDid b m out = withHolder b (out .state) (joinedBy (out .result) m (b .heard))
 
 abbrev pub afterRebuilderDid : ByteWorld → List ℕ → RebuilderLeft → ByteWorld
-afterRebuilderDid b m out = record {
-  holder = b .holder;
-  rebuilder = out .state;
-  string = out .string;
-  sheet = out .sheet;
-  waiting = writtenBy (out .result) (b .waiting) (out .question);
-  earlier = joinedBy (out .result) (b .waiting) (b .earlier);
-  heard = b .heard;
-  taken = joinedBy (out .result) m (b .taken);
-}
+afterRebuilderDid b m out = withRebuilder b (out .state) (out .string) (out .sheet) (writtenBy (out .result) (b .waiting) (out .question)) (joinedBy (out .result) (b .waiting) (b .earlier)) (joinedBy (out .result) m (b .taken))
 
 abbrev pub stepBytes : ByteLent → ByteWorld → Call → ByteWorld
 stepBytes c b (toHolder m reply) = afterHolderDid b m (holderDoes c b m reply)
 stepBytes c b (toRebuilder m question) = afterRebuilderDid b m (rebuilderDoes c b m question)
 
--- ---- lists of calls, from the first to the last
+-- ---- lists of calls, as in ends' Worlds
 abbrev pub bytesAfter : ByteLent → ByteWorld → List Call → ByteWorld
-bytesAfter c b [] = b
-bytesAfter c b (k ∷ ks) = bytesAfter c (stepBytes c b k) ks
+bytesAfter c b ks = afterBy (stepBytes c) b ks
 
 abbrev pub EachOnBytes : (ByteWorld → Call → Type 0) → ByteLent → ByteWorld → List Call → Type 0
-EachOnBytes P c b [] = Unit {0}
-EachOnBytes P c b (k ∷ ks) = P b k × EachOnBytes P c (stepBytes c b k) ks
+EachOnBytes P c b ks = EachBy (stepBytes c) P b ks
 
 abbrev pub startDoes : ByteLent → StartLeft
 startDoes c = startBytesOutcome (c .settings) (c .y) (c .ybits) (c .rebuilder) (c .question)

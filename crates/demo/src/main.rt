@@ -252,6 +252,7 @@ fn converse(
         how: 0,
     };
     let mut sheet = [none; 16385];
+    // Above the 10 * floor(n / m) + 6 questions that demand 3 allows, 81,926 at most; the bound only lets the prover see the end.
     let mut left: u32 = 100000;
     while 0 < left {
         let progress = s.progress;

@@ -38,16 +38,45 @@ abbrev pub bitsOfY : Lent → List Bool
 bitsOfY c = range (c .y) 0 (c .ybits)
 
 -- what the calls so far have left: both states, the string buffer and the sheet; the question waiting, empty if none waits, and those that
--- waited before it; the messages that each end took
-pub record World : Type 0 where
-  pub holder : Holder
-  pub rebuilder : Rebuilder
+-- waited before it; the messages that each end took. H, R and S are the forms in which states and sheet are kept
+pub record WorldOf (H R S : Type 0) : Type 0 where
+  pub holder : H
+  pub rebuilder : R
   pub string : List ℕ
-  pub sheet : List Row
+  pub sheet : S
   pub waiting : List ℕ
   pub earlier : List (List ℕ)
   pub heard : List (List ℕ)
   pub taken : List (List ℕ)
+
+abbrev pub World : Type 0
+World = WorldOf Holder Rebuilder (List Row)
+
+-- w with another state of the holder and other messages that it took; the rebuilder's part stays
+abbrev pub withHolder : {H R S : Type 0} → WorldOf H R S → H → (heard : List (List ℕ)) → WorldOf H R S
+withHolder w state heard = record {
+  holder = state;
+  rebuilder = w .rebuilder;
+  string = w .string;
+  sheet = w .sheet;
+  waiting = w .waiting;
+  earlier = w .earlier;
+  heard = heard;
+  taken = w .taken;
+}
+
+-- w with all that a call of the rebuilder may change; the holder's part stays
+abbrev pub withRebuilder : {H R S : Type 0} → WorldOf H R S → R → (string : List ℕ) → (sheet : S) → (waiting : List ℕ) → (earlier taken : List (List ℕ)) → WorldOf H R S
+withRebuilder w state string sheet waiting earlier taken = record {
+  holder = w .holder;
+  rebuilder = state;
+  string = string;
+  sheet = sheet;
+  waiting = waiting;
+  earlier = earlier;
+  heard = w .heard;
+  taken = taken;
+}
 
 -- m joins those before it if the call was taken
 abbrev pub joined : {A : Type 0} → Result A → List ℕ → List (List ℕ) → List (List ℕ)
@@ -73,43 +102,31 @@ abbrev pub rebuilderSays : Lent → World → (message question : List ℕ) → 
 rebuilderSays c w m question = sheetOutcome (w .rebuilder) (c .y) (c .ybits) m (w .sheet) (w .string) question
 
 abbrev pub afterHolder : World → List ℕ → HolderSaid → World
-afterHolder w m said = record {
-  holder = said .state;
-  rebuilder = w .rebuilder;
-  string = w .string;
-  sheet = w .sheet;
-  waiting = w .waiting;
-  earlier = w .earlier;
-  heard = joined (said .answer) m (w .heard);
-  taken = w .taken;
-}
+afterHolder w m said = withHolder w (said .state) (joined (said .answer) m (w .heard))
 
 abbrev pub afterRebuilder : World → List ℕ → SheetSaid → World
-afterRebuilder w m out = record {
-  holder = w .holder;
-  rebuilder = out .said .state;
-  string = out .said .string;
-  sheet = out .rows;
-  waiting = lastWritten (w .waiting) (out .said .answer) (out .said .question);
-  earlier = joined (out .said .answer) (w .waiting) (w .earlier);
-  heard = w .heard;
-  taken = joined (out .said .answer) m (w .taken);
-}
+afterRebuilder w m out = withRebuilder w (out .said .state) (out .said .string) (out .rows) (lastWritten (w .waiting) (out .said .answer) (out .said .question)) (joined (out .said .answer) (w .waiting) (w .earlier)) (joined (out .said .answer) m (w .taken))
 
 -- "Each call gets the state that its end's last taken call returned": a refused one returns the state that it got
 abbrev pub stepWorld : Lent → World → Call → World
 stepWorld c w (toHolder m reply) = afterHolder w m (holderSays c w m reply)
 stepWorld c w (toRebuilder m question) = afterRebuilder w m (rebuilderSays c w m question)
 
--- ---- lists of calls
-abbrev pub worldAfter : Lent → World → List Call → World
-worldAfter c w [] = w
-worldAfter c w (k ∷ ks) = worldAfter c (stepWorld c w k) ks
+-- ---- lists of calls, for any step
+abbrev pub afterBy : {W : Type 0} → (W → Call → W) → W → List Call → W
+afterBy step w [] = w
+afterBy step w (k ∷ ks) = afterBy step (step w k) ks
 
 -- P holds of each call and of the world in which it came
+abbrev pub EachBy : {W : Type 0} → (W → Call → W) → (W → Call → Type 0) → W → List Call → Type 0
+EachBy step P w [] = Unit {0}
+EachBy step P w (k ∷ ks) = P w k × EachBy step P (step w k) ks
+
+abbrev pub worldAfter : Lent → World → List Call → World
+worldAfter c w ks = afterBy (stepWorld c) w ks
+
 abbrev pub Each : (World → Call → Type 0) → Lent → World → List Call → Type 0
-Each P c w [] = Unit {0}
-Each P c w (k ∷ ks) = P w k × Each P c (stepWorld c w k) ks
+Each P c w ks = EachBy (stepWorld c) P w ks
 
 -- the right side of the contract of rebuilder_start
 abbrev pub startSays : Lent → StartSaid

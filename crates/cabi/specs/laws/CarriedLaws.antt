@@ -60,7 +60,7 @@ pieces-fit st f l o i = go (decLt i (st .waiting)) (decLt i 32)
     go (no a) (yes b) = rw (f .blank i (omega arith) b) none-fits
     go (no a) (no b) = rw (List·getD-eq-default (st .pieces) noPiece {n = i} (omega arith)) none-fits
 
--- the fields that the phase bounds
+-- the fields that the phase bounds. The bounds are not tight: that the numbers fit four bytes is all that is wanted of them
 record Bounded (st : Rebuilder) : Type 0 where
   answered-most : st .answered ≤ 1000000
   counted-most : st .counted ≤ 1000000

@@ -5,7 +5,8 @@ use lib.ListN.{length}
 use Rattle.strings.specs.Bits.{maxBits}
 
 -- ---- the search inside the rebuilder's call
--- both ranges are there, and all numbers are within their limits; the anchor may stand in a message
+-- both ranges are there, and all numbers are within their limits; the anchor may stand in a message. The last bound only keeps at + m in
+-- range: a message has at most 8,193 bytes
 pub record Searching (y : List ℕ) (start q p s m k : ℕ) (a : List ℕ) (at : ℕ) : Type 0 where
   pub piece : start + q ≤ 8 * length y
   pub few : start + q ≤ maxBits

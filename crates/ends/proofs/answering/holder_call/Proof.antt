@@ -4,7 +4,7 @@ use native.Mathlib.Omega.{arith}
 use lib.Dec.{ltb}
 use borrow.Author.Tests.{not-true, not-false}
 use Rattle.strings.specs.StringRule.{stringRule}
-use Rattle.ends.specs.Soundness.{holderSound}
+use Rattle.ends.specs.Soundness.{holderSound, mostAnswers}
 use Rattle.ends.specs.HolderCall.{sameBitCount}
 use Rattle.ends.specs.code.HolderCodeLaws.{call-no-kind, refused-holder, tests-able, able-few, call-bad-string, call-out-of-turn, call-kind, said-by}
 use Rattle.strings.specs.laws.Tests.{test-is}
@@ -17,7 +17,7 @@ string-kept : (c : tie.Else1) → let a = c .before .before .before .before .bef
 string-kept c = test-is (c .before .before .before .keeps-string-rule .ensures) (c .before .before .has-same-bit-count .ensures) (c .before .both .ensures) (not-false _ (c .if1 .left))
 
 -- behind the second
-answer-left : (c : tie.Else2) → let a = c .before .before .before .before .before .before .before .before .before .before .before .args in holderSound (a .st) && ltb (a .st .answers) 1000000 ≡ true
+answer-left : (c : tie.Else2) → let a = c .before .before .before .before .before .before .before .before .before .before .before .args in holderSound (a .st) && ltb (a .st .answers) mostAnswers ≡ true
 answer-left c = test-is (c .before .before .before .holder-is-sound .ensures) refl (c .before .both2 .ensures) (not-false _ (c .if2 .left))
 
 keeps-string-rule-requires : tie.Need-keeps-string-rule-requires
