@@ -1,9 +1,10 @@
 // The reader of 01, "Both ends read through one reader that holds a message and how far it has got". It only holds the two; the work
-// is done by `read_number`, on a slice and a position. Questions and answers are read through the last three functions here: each makes
-// one reader and moves it on from number to number. Their parameters are plain, so that the functions above need no proof by hand.
+// is done by `read_number`, on a slice and a position. Questions and answers are read through `next_number`, `two_numbers` and
+// `three_numbers`, each of which reads through one reader; the last two move it on from number to number, in `three_readings`. Their
+// parameters are plain, so that the functions above need no proof by hand.
 ghost use mathlib.Core.Path.{_≡_};
 ghost use Rattle.messages.specs.Numbers.{numberAt, saidNumber, twoAt, saidTwo, threeAt, saidThree};
-ghost use Rattle.messages.specs.code.Reading.{behindNumber, twoOf, threeOf};
+ghost use Rattle.messages.specs.code.Reading.{behindNumber, twoOf, threeOf, OneBehindTheOther};
 use crate::numbers::NumberRead;
 use crate::numbers::read_number;
 use strings::Refusal;
@@ -17,6 +18,13 @@ pub enum TwoRead {
 pub enum ThreeRead {
     Three(u32, u32, u32, usize),
     NoThree(Refusal),
+}
+
+// What three readings gave, each a number or why there is none.
+pub struct Readings {
+    pub first: NumberRead,
+    pub second: NumberRead,
+    pub third: NumberRead,
 }
 
 // A reader: `src` is the message, `at` is how far it has got, as the index of the first byte that is not read yet.
@@ -49,8 +57,8 @@ fn behind(n: NumberRead, at: usize) -> usize
     }
 }
 
-// A reader moved on behind `n`, which it has read. Where that was no number it stays, and finds none again: so the functions below read
-// on without a test in between, and what they have read is looked at in the end.
+// A reader moved on behind `n`, which it has read. Where that was no number it stays, and finds none again: so `three_readings` reads on
+// without a test in between, and what it has read is looked at in the end.
 pub fn moved<'a>(r: Reader<'a>, n: NumberRead) -> Reader<'a>
     ensures { λ q. ⌜ (q .src ≡ r .entry .src) × (q .at ≡ behindNumber n (r .entry .at)) ⌝ }
 {
@@ -93,13 +101,31 @@ pub fn next_number(s: &[u8], at: usize) -> NumberRead
     read_next(reader_at(s, at))
 }
 
+// Three readings from position `at` on, each behind the one before: one reader, moved on from number to number. It serves for two numbers
+// as well as for three. A third reading where two are wanted does no harm: a reading never fails, it says why there is no number, and the
+// functions below look only at what they want.
+fn three_readings(s: &[u8], at: usize) -> Readings
+    ensures { λ r. ⌜ OneBehindTheOther (now (s .entry)) at r ⌝ }
+{
+    let start = reader_at(s, at);
+    let first = read_next(start);
+    let on = moved(start, first);
+    let second = read_next(on);
+    let third = read_next(moved(on, second));
+    Readings {
+        first,
+        second,
+        third,
+    }
+}
+
 // Two numbers from position `at` on.
 pub fn two_numbers(s: &[u8], at: usize) -> TwoRead
     ensures { λ r. ⌜ saidTwo r ≡ twoAt (now (s .entry)) at ⌝ }
 {
-    let start = reader_at(s, at);
-    let first = read_next(start);
-    let second = read_next(moved(start, first));
+    let r = three_readings(s, at);
+    let first = r.first;
+    let second = r.second;
     two_of(first, second)
 }
 
@@ -107,10 +133,9 @@ pub fn two_numbers(s: &[u8], at: usize) -> TwoRead
 pub fn three_numbers(s: &[u8], at: usize) -> ThreeRead
     ensures { λ r. ⌜ saidThree r ≡ threeAt (now (s .entry)) at ⌝ }
 {
-    let start = reader_at(s, at);
-    let first = read_next(start);
-    let on = moved(start, first);
-    let second = read_next(on);
-    let third = read_next(moved(on, second));
+    let r = three_readings(s, at);
+    let first = r.first;
+    let second = r.second;
+    let third = r.third;
     three_of(first, second, third)
 }

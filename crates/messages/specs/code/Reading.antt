@@ -1,16 +1,23 @@
--- The terms of the reader's contracts: how far it has got, and readings put together.
+-- The terms of the reader's contracts: how far it has got, readings one behind the other, and readings put together.
 use mathlib.Core.Path.{_≡_, refl}
 use mathlib.Core.List.{List}
 use Prim.Native.Nat.{ℕ}
 use Rattle.strings.specs.Results.{Result, value, andThen}
 use Rattle.messages.specs.declared.numbers.NumberRead.{NumberRead}
 use Rattle.messages.specs.declared.numbers.NumberRead.the-variants.{Value, NoNumber}
+use Rattle.messages.specs.declared.reading.Readings.{Readings}
 use Rattle.messages.specs.Numbers.{numberAt, saidNumber, twoAt, threeAt}
 
 -- behind the number that was read at position at; still there where none was read
 abbrev pub behindNumber : NumberRead → ℕ → ℕ
 behindNumber (Value v end) at = end
 behindNumber (NoNumber e) at = at
+
+-- r is what stands in the message s from position at on, each reading behind the one before
+pub record OneBehindTheOther (s : List ℕ) (at : ℕ) (r : Readings) : Type 0 where
+  pub first-read : saidNumber (r .first) ≡ numberAt s at
+  pub second-read : saidNumber (r .second) ≡ numberAt s (behindNumber (r .first) at)
+  pub third-read : saidNumber (r .third) ≡ numberAt s (behindNumber (r .second) (behindNumber (r .first) at))
 
 -- the first refusal, or the numbers and the position behind the last
 abbrev pub twoOf : (first second : Result (ℕ × ℕ)) → Result (ℕ × ℕ × ℕ)
