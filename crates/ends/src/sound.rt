@@ -48,20 +48,20 @@ fn is_blank(pc: Piece) -> bool
     both(pc.x == 0, both(pc.p == 0, both(pc.y == 0, pc.q == 0)))
 }
 
-// Whether all entries behind the waiting pieces are zeros.
+// Whether all entries behind the waiting pieces are zeros. All are looked at, also after one that is not: a
+// branch for each would be slower.
 fn blank_behind(st: Rebuilder) -> bool
     requires { ⌜ st .waiting ≤ 32 ⌝ }
     ensures { λ r. ⌜ r ≡ blankFrom (st .pieces) (32 - st .waiting) (st .waiting) ⌝ }
 {
+    let mut blank = true;
     let mut i = st.waiting as usize;
     while i < 32 {
         let pc = st.pieces[i];
-        if !is_blank(pc) {
-            return false;
-        }
+        blank = both(is_blank(pc), blank);
         i += 1;
     }
-    true
+    blank
 }
 
 // How long a waiting piece with d others to its right can be.

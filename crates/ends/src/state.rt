@@ -186,7 +186,8 @@ pub fn restage(st: Rebuilder) -> Rebuilder
     if st.waiting == 0 {
         return with_stack(st, Stage::Hashing, st.waiting, pieces);
     }
-    let pc = top(st);
+    // Not by `top`, which would copy the state once more.
+    let pc = st.pieces[(st.waiting - 1) as usize];
     let t = first_stage(st.settings, pc.p, pc.q);
     with_stack(st, t, st.waiting, pieces)
 }

@@ -5,17 +5,19 @@ ghost use mathlib.Core.Bool.{true};
 ghost use mathlib.Core.List.{List};
 ghost use Prim.Native.Nat.{ℕ, _+_, _*_, _≤_, _<_};
 ghost use lib.ListN.{length};
-ghost use Rattle.strings.specs.Bits.{range, bytesFor, maxBits};
+ghost use Rattle.strings.specs.Bits.{range, bytesFor, maxBits, atFront};
 ghost use Rattle.messages.specs.Answers.{sizeAnswer, hashAnswer, syndromeAnswer, bitsAnswer};
 ghost use Rattle.ends.specs.Segments.{howNumber, row};
-ghost use Rattle.ends.specs.States.{top, popped, restaged, retried, splitAt};
+ghost use Rattle.ends.specs.States.{top, popped, restaged, retried, splitAt, planned};
 ghost use Rattle.ends.specs.Soundness.{sound};
+ghost use Rattle.ends.specs.declared.Rebuilder.{Rebuilder};
 ghost use Rattle.ends.specs.declared.SheetChange.the-variants.{NoRow, AddRow};
 ghost use Rattle.ends.specs.declared.How.the-variants.{ByAnchor};
 ghost use Rattle.ends.specs.declared.Stage.the-variants.{Hashing, Anchor, AllBits};
-ghost use Rattle.ends.specs.RebuilderCall.{tallied};
+ghost use Rattle.ends.specs.RebuilderCall.{tallied, writtenQuestion};
 ghost use Rattle.ends.specs.RebuilderOutcome.{saidRebuilder};
-ghost use Rattle.ends.specs.code.RebuilderParts.{OutIs, Acting, Splitting, Lending, Retriable, RepairDue, AsksBits, bitsOfStage, repairHow, stepOutcome, WholeDue, Opening, BitsDue, dueLength};
+ghost use Rattle.ends.specs.code.StateCode.{planOf};
+ghost use Rattle.ends.specs.code.RebuilderParts.{nextAnswer, OutIs, Acting, Splitting, Lending, Retriable, RepairDue, AsksBits, bitsOfStage, repairHow, stepOutcome, WholeDue, Opening, BitsDue, dueLength};
 use crate::Attempt;
 use crate::How;
 use crate::Phase;
@@ -57,19 +59,30 @@ fn give(answer: RebuilderAnswer, s: Rebuilder, change: SheetChange) -> Rebuilder
     }
 }
 
+// What is planned is written as the next question. The state stays with `finish`, where it is copied once, and not in each case here.
+fn ask(plan: Plan, question: &mut [u8]) -> RebuilderAnswer
+    requires { ⌜ 8 ≤ length (now question) ⌝ }
+    ensures { λ r. ⌜ ((s : Rebuilder) → sound s ≡ true → plan ≡ planOf (planned s) → (r ≡ nextAnswer (writtenQuestion (planned s)))
+        × (now (question .exit) ≡ atFront (writtenQuestion (planned s)) (now (question .entry)))) ⌝ }
+{
+    match plan {
+        Plan::Finished => RebuilderAnswer::Finished,
+        Plan::Ask(q) => match messages::write_question(q, question) {
+            // Never: no question is longer than the 8 bytes that are required here.
+            WriteResult::TooShort => RebuilderAnswer::Finished,
+            WriteResult::Written(size) => RebuilderAnswer::Asks(size),
+        },
+    }
+}
+
 // The next question of the state s is written.
 fn finish(s: Rebuilder, change: SheetChange, question: &mut [u8]) -> RebuilderOut
     requires { ⌜ (sound s ≡ true) × (8 ≤ length (now question)) ⌝ }
     ensures { λ r. ⌜ OutIs r s change (now (question .entry)) (now (question .exit)) ⌝ }
 {
-    match state::plan_next(s) {
-        Plan::Finished => give(RebuilderAnswer::Finished, s, change),
-        Plan::Ask(q) => match messages::write_question(q, question) {
-            // Never: no question is longer than the 8 bytes that are required here.
-            WriteResult::TooShort => give(RebuilderAnswer::Finished, s, change),
-            WriteResult::Written(size) => give(RebuilderAnswer::Asks(size), s, change),
-        },
-    }
+    let plan = state::plan_next(s);
+    let answer = ask(plan, question);
+    give(answer, s, change)
 }
 
 // The leftmost piece is settled.

@@ -1,6 +1,6 @@
 // Numbers of messages: written and read as groups of seven bits, the lowest first.
 ghost use mathlib.Core.Path.{_≡_};
-ghost use Prim.Native.Nat.{_+_, _≤_, _<_};
+ghost use Prim.Native.Nat.{_+_, min, _≤_, _<_};
 ghost use lib.ListN.{length};
 ghost use lib.Seq.{sets};
 ghost use Rattle.messages.specs.Numbers.{number, nextByte, numberAt, saidNumber};
@@ -31,7 +31,20 @@ fn read_fifth(s: &[u8], i: usize, v: u32) -> NumberRead
     NumberRead::Value(v + 268435456 * wide(last), i + 1)
 }
 
-// The number at position `at`, byte by byte: v so far, the next byte counts w-fold, and k more may follow it.
+// Where the first four bytes of a number at position `at` end: behind the fourth, or with the message of `size` bytes.
+fn fourth_end(size: usize, at: usize) -> usize
+    requires { ⌜ at < size ⌝ }
+    ensures { λ r. ⌜ r ≡ min (at + 4) size ⌝ }
+{
+    if size - at < 4 {
+        return size;
+    }
+    at + 4
+}
+
+// The number at position `at`, byte by byte: v so far, and the next byte, at index i, counts w-fold. The loop stops behind the fourth byte or
+// where the message ends: a fifth is next, or none is there, and `read_fifth` finds which. The compiler does
+// not unroll a loop whose number of turns it can't know, so that this function stays small enough to be inlined.
 pub fn read_number(s: &[u8], at: usize) -> NumberRead
     ensures { λ r. ⌜ saidNumber r ≡ numberAt (now (s .entry)) at ⌝ }
 {
@@ -42,14 +55,11 @@ pub fn read_number(s: &[u8], at: usize) -> NumberRead
     if first < 128 {
         return NumberRead::Value(wide(first), at + 1);
     }
+    let end = fourth_end(s.len(), at);
     let mut v = wide(first - 128);
     let mut w: u32 = 128;
     let mut i = at + 1;
-    let mut k: u32 = 3;
-    while 0 < k {
-        if s.len() <= i {
-            return NumberRead::NoNumber(Refusal::Truncated);
-        }
+    while i < end {
         let b = s[i];
         if b == 0 {
             return NumberRead::NoNumber(Refusal::BadNumber);
@@ -60,7 +70,6 @@ pub fn read_number(s: &[u8], at: usize) -> NumberRead
         v = v + w * wide(b - 128);
         w = w * 128;
         i += 1;
-        k -= 1;
     }
     read_fifth(s, i, v)
 }

@@ -1,6 +1,8 @@
 use borrow.Author.Needs.{needs}
 use mathlib.Core.Path.{_≡_, refl, sym, ap, _∙_}
-use Prim.Native.Nat.{ℕ, _+_, _-_, _*_, _≤_, _<_}
+use mathlib.Core.List.{List}
+use Prim.Native.Nat.{ℕ, _+_, _-_, _*_, min, _≤_, _<_}
+use native.Mathlib.Decide.{decLe}
 use native.Mathlib.Omega.{arith}
 use lib.ListN.{length}
 use Rattle.messages.specs.Numbers.{nextByte, numberAt}
@@ -9,26 +11,46 @@ use Rattle.strings.specs.Results.{value}
 use Rattle.messages.proofs.numbers.read_number.Statement.{statement}
 use Rattle.messages.proofs.numbers.read_number.Tie as tie
 
+-- at + 4 - i more bytes may be read from index i on, the fifth among them
 abbrev Inv-loop : tie.InvT-loop
-Inv-loop s at first v₀ w₀ i₀ k₀ v w i k = (i ≤ length s) × (k ≤ 3) × (w ≡ weight k) × (v < w) × (nextByte k s i w v ≡ numberAt s at)
+Inv-loop s at first end v₀ w₀ i₀ v w i =
+    (at + 1 ≤ i) × (i ≤ end) × (end ≡ min (at + 4) (length s)) × (w ≡ weight (at + 4 - i)) × (v < w) × (nextByte (at + 4 - i) s i w v ≡ numberAt s at)
 
 abbrev μ-loop : tie.MeasureT-loop
-μ-loop s at first v₀ w₀ i₀ k₀ v w i k = k
+μ-loop s at first end v₀ w₀ i₀ v w i = end - i
+
+-- where the loop ends, the fifth byte is next, or there is none
+fifth : (s : List ℕ) (at i w v end : ℕ) → i ≤ end → end ≡ min (at + 4) (length s) → w ≡ weight (at + 4 - i) → v < w → end ≤ i → nextByte 0 s i 268435456 v ≡ nextByte (at + 4 - i) s i w v
+fifth s at i w v end a b e l d = go (decLe (length s) i)
+  where
+    go : Dec (length s ≤ i) → nextByte 0 s i 268435456 v ≡ nextByte (at + 4 - i) s i w v
+    go (yes h) = read-cut s 0 i 268435456 v h ∙ sym (read-cut s (at + 4 - i) i w v h)
+    go (no h) = read-end s (at + 4 - i) i w v (omega arith) e l .1
 
 -- the value after the byte at hand, and the weight of the next
 turn3 : (c : tie.After-wide3 Inv-loop μ-loop)
-    → let l = c .before .before .before .before .before .before .loop in
-    (l .w * c .wide3 .result < 268435456) × (l .v + l .w * c .wide3 .result < 268435456) × (l .v + l .w * c .wide3 .result < l .w * 128) × (l .w * 128 ≡ weight (l .k - 1))
+    → let l = c .before .before .before .before .before .loop in
+    (l .w * c .wide3 .result < 268435456) × (l .v + l .w * c .wide3 .result < 268435456)
 turn3 c =
-    let l = c .before .before .before .before .before .before .loop in
-    turn-fits (l .k) (l .w) (l .v) (c .wide3 .result) (search needs) (search needs) (l .inv .2) (l .inv .3) (omega (arith, c .wide3 .ensures .0))
+    let l = c .before .before .before .before .before .loop in
+    let a = c .before .before .before .before .before .before .before .before .before .before .before .before .args in
+    let i = l .inv in
+    let h = c .before .before .before .before .loop-test .taken in
+    let t = turn-fits (a .at + 4 - l .i) (l .w) (l .v) (c .wide3 .result) (omega arith) (omega arith) (i .3) (i .4) (omega (arith, c .wide3 .ensures .0)) in
+    (t .0, t .1)
 
 turn4 : (c : tie.After-wide4 Inv-loop μ-loop)
-    → let l = c .before .before .before .before .before .before .loop in
-    (l .w * c .wide4 .result < 268435456) × (l .v + l .w * c .wide4 .result < 268435456) × (l .v + l .w * c .wide4 .result < l .w * 128) × (l .w * 128 ≡ weight (l .k - 1))
+    → let l = c .before .before .before .before .before .loop in
+    let a = c .before .before .before .before .before .before .before .before .before .before .before .before .args in
+    (l .w * c .wide4 .result < 268435456) × (l .v + l .w * c .wide4 .result < 268435456) × (l .v + l .w * c .wide4 .result < l .w * 128) × (l .w * 128 ≡ weight (a .at + 4 - (l .i + 1)))
 turn4 c =
-    let l = c .before .before .before .before .before .before .loop in
-    turn-fits (l .k) (l .w) (l .v) (c .wide4 .result) (search needs) (search needs) (l .inv .2) (l .inv .3) (omega (arith, c .wide4 .ensures .0, c .before .before .before .shared-slice-known3 .given (l .i)))
+    let l = c .before .before .before .before .before .loop in
+    let a = c .before .before .before .before .before .before .before .before .before .before .before .before .args in
+    let i = l .inv in
+    let h = c .before .before .before .before .loop-test .taken in
+    let t = turn-fits (a .at + 4 - l .i) (l .w) (l .v) (c .wide4 .result) (omega arith) (omega arith) (i .3) (i .4) (omega (arith, c .wide4 .ensures .0, c .before .before .before .shared-slice-known3 .given (l .i))) in
+    let k : a .at + 4 - l .i - 1 ≡ a .at + 4 - (l .i + 1) = omega arith in
+    (t .0, t .1, t .2, t .3 ∙ ap weight k)
 
 returns : tie.Need-returns Inv-loop μ-loop
 returns c = sym (read-none _ _ (c .if1 .taken))
@@ -49,6 +71,9 @@ returns-2 c =
     let if2 = c .before .if2 in
     ap (λ (n : ℕ). value (n, a .at + 1)) (c .wide .ensures .0) ∙ sym (read-short _ (a .at) _ (if1 .left) refl (if2 .taken))
 
+fourth-end-requires : tie.Need-fourth-end-requires Inv-loop μ-loop
+fourth-end-requires c κs = search needs
+
 wide-requires-2 : tie.Need-wide-requires-2 Inv-loop μ-loop
 wide-requires-2 c κs = search needs
 
@@ -57,42 +82,51 @@ add-i c = search needs
 
 loop-holds : tie.Need-loop-holds Inv-loop μ-loop
 loop-holds c =
-    let a = c .before .before .before .before .before .args in
-    let shared-slice-known2 = c .before .before .shared-slice-known2 in
-    let if1 = c .before .before .before .if1 in
-    let if2 = c .before .if2 in
-    (omega arith, omega arith, refl, omega (arith, shared-slice-known2 .given (a .at), c .wide2 .ensures .0), read-first (a .s .now) (a .at) _ (if1 .left) (if2 .left) (c .wide2 .ensures .0))
-
-returns-3 : tie.Need-returns-3 Inv-loop μ-loop
-returns-3 c = sym (read-cut _ _ _ _ _ (c .if3 .taken)) ∙ c .before .before .loop .inv .4
+    let a = c .before .before .before .before .before .before .args in
+    let shared-slice-known2 = c .before .before .before .shared-slice-known2 in
+    let if1 = c .before .before .before .before .if1 in
+    let if2 = c .before .before .if2 in
+    let e = c .before .fourth-end .ensures in
+    let h = if1 .left in
+    let k : 3 ≡ a .at + 4 - (a .at + 1) = omega arith in (
+      omega arith,
+      omega arith,
+      e,
+      ap weight k,
+      omega (arith, shared-slice-known2 .given (a .at), c .wide2 .ensures .0),
+      ap (λ (n : ℕ). nextByte n (a .s .now) (a .at + 1) 128 (c .wide2 .result)) (sym k) ∙ read-first (a .s .now) (a .at) _ h (if2 .left) (c .wide2 .ensures .0),
+    )
 
 shared-slice-read-b : tie.Need-shared-slice-read-b Inv-loop μ-loop
-shared-slice-read-b c = search needs
+shared-slice-read-b c = let i = c .before .before .loop .inv in let h = c .before .loop-test .taken in omega arith
 
-returns-4 : tie.Need-returns-4 Inv-loop μ-loop
-returns-4 c = sym (read-zero _ _ _ _ _ (c .before .before .if3 .left) (c .if4 .taken)) ∙ c .before .before .before .before .loop .inv .4
+returns-3 : tie.Need-returns-3 Inv-loop μ-loop
+returns-3 c =
+    let l = c .before .before .before .loop in
+    let i = l .inv in
+    let h = c .before .before .loop-test .taken in
+    sym (read-zero _ _ (l .i) (l .w) (l .v) (omega arith) (c .if3 .taken)) ∙ i .5
 
 wide-requires-3 : tie.Need-wide-requires-3 Inv-loop μ-loop
 wide-requires-3 c κs = search needs
 
-mul-t23 : tie.Need-mul-t23 Inv-loop μ-loop
-mul-t23 c = let t = turn3 c in omega arith
+mul-t21 : tie.Need-mul-t21 Inv-loop μ-loop
+mul-t21 c = let t = turn3 c in omega arith
 
-add-t24 : tie.Need-add-t24 Inv-loop μ-loop
-add-t24 c = let t = turn3 c in omega arith
+add-t22 : tie.Need-add-t22 Inv-loop μ-loop
+add-t22 c = let t = turn3 c in omega arith
 
-add-t25 : tie.Need-add-t25 Inv-loop μ-loop
-add-t25 c = search needs
+add-t23 : tie.Need-add-t23 Inv-loop μ-loop
+add-t23 c = search needs
 
-returns-5 : tie.Need-returns-5 Inv-loop μ-loop
-returns-5 c =
-    let loop = c .before .before .before .before .before .before .loop in
-    let loop-test = c .before .before .before .before .before .loop-test in
-    let if3 = c .before .before .before .before .if3 in
-    let if4 = c .before .before .if4 in
-    let if5 = c .before .if5 in
-    let l = loop in
-    ap (λ (n : ℕ). value (l .v + l .w * n, l .i + 1)) (c .wide3 .ensures .0) ∙ sym (read-last _ (l .k) (l .i) (l .w) (l .v) (loop-test .taken) (if3 .left) (if4 .left) (if5 .taken)) ∙ l .inv .4
+returns-4 : tie.Need-returns-4 Inv-loop μ-loop
+returns-4 c =
+    let l = c .before .before .before .before .before .loop in
+    let i = l .inv in
+    let h = c .before .before .before .before .loop-test .taken in
+    let if3 = c .before .before .if3 in
+    let if4 = c .before .if4 in
+    ap (λ (n : ℕ). value (l .v + l .w * n, l .i + 1)) (c .wide3 .ensures .0) ∙ sym (read-last _ _ (l .i) (l .w) (l .v) (omega arith) (omega arith) (if3 .left) (if4 .taken)) ∙ i .5
 
 wide-requires-4 : tie.Need-wide-requires-4 Inv-loop μ-loop
 wide-requires-4 c κs = search needs
@@ -104,48 +138,49 @@ add-v : tie.Need-add-v Inv-loop μ-loop
 add-v c = let t = turn4 c in omega arith
 
 mul-w : tie.Need-mul-w Inv-loop μ-loop
-mul-w c = let t = turn4 c in omega (arith, weight-most (c .before .before .before .before .before .before .loop .k - 1))
+mul-w c =
+    let l = c .before .before .before .before .before .loop in
+    let a = c .before .before .before .before .before .before .before .before .before .before .before .before .args in
+    let t = turn4 c in omega (arith, weight-most (a .at + 4 - (l .i + 1)))
 
 add-i-2 : tie.Need-add-i-2 Inv-loop μ-loop
 add-i-2 c = search needs
-
-sub-k : tie.Need-sub-k Inv-loop μ-loop
-sub-k c = search needs
 
 loop-less : tie.Need-loop-less Inv-loop μ-loop
 loop-less c = search needs
 
 loop-again : tie.Need-loop-again Inv-loop μ-loop
 loop-again c =
-    let loop = c .before .before .before .before .before .before .loop in
+    let l = c .before .before .before .before .before .loop in
     let a = c .before .before .before .before .before .before .before .before .before .before .before .before .args in
-    let loop-test = c .before .before .before .before .before .loop-test in
-    let if3 = c .before .before .before .before .if3 in
-    let if4 = c .before .before .if4 in
-    let if5 = c .before .if5 in
-    let l = loop in
+    let i = l .inv in
+    let h = c .before .before .before .before .loop-test .taken in
+    let if3 = c .before .before .if3 in
+    let if4 = c .before .if4 in
     let s = a .s .now in
-    let t = turn4 c in (
+    let t = turn4 c in
+    let k : a .at + 4 - (l .i + 1) ≡ a .at + 4 - l .i - 1 = omega arith in (
       omega arith,
       omega arith,
+      i .2,
       t .3,
       t .2,
-      ap (λ (n : ℕ). nextByte (l .k - 1) s (l .i + 1) (l .w * 128) (l .v + l .w * n)) (c .wide4 .ensures .0)
-          ∙ sym (read-next s (l .k) (l .i) (l .w) (l .v) (loop-test .taken) (if3 .left) (if4 .left) (if5 .left)) ∙ l .inv .4,
+      ap (λ (n : ℕ). nextByte n s (l .i + 1) (l .w * 128) (l .v + l .w * c .wide4 .result)) k
+          ∙ ap (λ (n : ℕ). nextByte (a .at + 4 - l .i - 1) s (l .i + 1) (l .w * 128) (l .v + l .w * n)) (c .wide4 .ensures .0)
+          ∙ sym (read-next s (a .at + 4 - l .i) (l .i) (l .w) (l .v) (omega arith) (omega arith) (if3 .left) (if4 .left)) ∙ i .5,
     )
 
 read-fifth-requires : tie.Need-read-fifth-requires Inv-loop μ-loop
 read-fifth-requires c κs =
-    let loop = c .before .loop in
-    let a = c .before .before .before .before .before .before .before .args in
-    let l = loop in read-end (a .s .now) (l .k) (l .i) (l .w) (l .v) (c .loop-test .left) (l .inv .2) (l .inv .3) .0
-
-returns-6 : tie.Need-returns-6 Inv-loop μ-loop
-returns-6 c =
-    let loop = c .before .before .loop in
+    let l = c .before .loop in
     let a = c .before .before .before .before .before .before .before .before .args in
-    let loop-test = c .before .loop-test in
-    let l = loop in c .read-fifth .ensures ∙ read-end (a .s .now) (l .k) (l .i) (l .w) (l .v) (loop-test .left) (l .inv .2) (l .inv .3) .1 ∙ l .inv .4
+    let i = l .inv in omega (arith, weight-most (a .at + 4 - l .i))
+
+returns-5 : tie.Need-returns-5 Inv-loop μ-loop
+returns-5 c =
+    let l = c .before .before .loop in
+    let a = c .before .before .before .before .before .before .before .before .before .args in
+    let i = l .inv in c .read-fifth .ensures ∙ fifth (a .s .now) (a .at) (l .i) (l .w) (l .v) _ (i .1) (i .2) (i .3) (i .4) (c .before .loop-test .left) ∙ i .5
 
 pub read-number-spec : {M : Type 1} → statement M
 read-number-spec =
@@ -158,24 +193,23 @@ read-number-spec =
     wide-requires
     add-t15
     returns-2
+    fourth-end-requires
     wide-requires-2
     add-i
     loop-holds
-    returns-3
     shared-slice-read-b
-    returns-4
+    returns-3
     wide-requires-3
-    mul-t23
-    add-t24
-    add-t25
-    returns-5
+    mul-t21
+    add-t22
+    add-t23
+    returns-4
     wide-requires-4
     mul-v
     add-v
     mul-w
     add-i-2
-    sub-k
     loop-less
     loop-again
     read-fifth-requires
-    returns-6)
+    returns-5)
