@@ -20,9 +20,13 @@
  * Threads. The library has no global state. Calls on different states may run at the same time;
  * slices that are only read (X, Y, messages) may be lent to several of them.
  *
- * Results. Each is value * 16 + refusal: LO_REFUSAL(r) is 0 where the call was not turned down,
- * and LO_VALUE(r) is then the answer. Otherwise LO_REFUSAL(r) is 1 to 9, and the call changed
+ * Results. Each is value * 256 + refusal: LO_REFUSAL(r) is 0 where the call was not turned down,
+ * and LO_VALUE(r) is then the answer. Otherwise LO_REFUSAL(r) is 1 to 10, and the call changed
  * nothing. Where several refusals apply, the order given with a function decides.
+ *
+ * Messages. The host carries them as they are. A question is open (kind 0: version, h, key), hash
+ * (1: start, length), syndrome (2: start, length), bits (3: start, length) or burst (4: start,
+ * length, B); docs/LAYOUT.md has their bytes and the answers'.
  */
 #ifndef LUNETTEORRIS_H
 #define LUNETTEORRIS_H
@@ -34,8 +38,8 @@
 extern "C" {
 #endif
 
-#define LO_VALUE(result) ((uint64_t)(result) >> 4)
-#define LO_REFUSAL(result) ((unsigned)((result) & 15))
+#define LO_VALUE(result) ((uint64_t)(result) >> 8)
+#define LO_REFUSAL(result) ((unsigned)((result) & 255))
 
 /* Refusals */
 #define LO_BAD_SETTING 1      /* a setting handed in is outside its limits */
@@ -50,6 +54,7 @@ extern "C" {
 #define LO_TRAILING_BYTES 7   /* bytes follow the last field or its bits */
 #define LO_OUT_OF_RANGE 8     /* a value is outside its range */
 #define LO_BUFFER_TOO_SHORT 9 /* a lent buffer or sheet is too short */
+#define LO_BAD_BURST 10       /* a question of kind 4 with a B outside 2 to 32 */
 
 /* Sizes */
 #define LO_MAX_BITS 65536
@@ -58,7 +63,7 @@ extern "C" {
 #define LO_ROW_BYTES 12        /* a row of the sheet */
 #define LO_QUESTION_BYTES 8    /* each question buffer, at least */
 #define LO_REPLY_BYTES 8193    /* the longest reply; no reply on n bits is longer than the larger of
-                                  9 and 1 + ceil(n/8) bytes */
+                                  102 and 1 + ceil(n/8) bytes */
 #define LO_STRING_BYTES(n) (((n) + 7) / 8)
 #define LO_SHEET_ROWS(n, m) (2 * ((n) / (m)) + 1)
 #define LO_SHEET_BYTES(n, m) (LO_ROW_BYTES * LO_SHEET_ROWS(n, m))
@@ -93,7 +98,8 @@ extern "C" {
 #define LO_REBUILDER_ROWS 40     /* rows in use */
 #define LO_REBUILDER_STAGE 44    /* leftmost piece: 0 hash asked, 1 syndrome to put a bit in, 2 to
                                     take one out, 3 to 5 the first, second, third anchor, 6 all its
-                                    bits; 0 if none waits; in phase 2 as the last answer left it */
+                                    bits, 7 its columns' syndromes (kind 4); 0 if none waits; in
+                                    phase 2 as the last answer left it */
 #define LO_REBUILDER_WAITING 48  /* waiting pieces */
 #define LO_REBUILDER_PIECES 52   /* 32 pieces of x, p, y, q, the leftmost waiting one last; unused
                                     ones zero */
@@ -107,6 +113,7 @@ extern "C" {
 #define LO_HOW_TAKE_OUT 3
 #define LO_HOW_ANCHOR 4
 #define LO_HOW_BITS 5
+#define LO_HOW_BURST 6 /* a bit put in or taken out in each column */
 
 /* The syndrome of the string s of `bits` bits: the sum of i * b_i, i from 1, modulo bits + 1.
  * Refusal 2. */
@@ -142,8 +149,8 @@ uint64_t lo_holder_fresh(uint8_t *state, size_t state_len);
  * hold the next state.
  * Refusals 2 (x breaks the string rule); 3 (state shorter than LO_HOLDER_BYTES, bytes that no state
  * has); 2 (another bit count than at the opening); 3 (state unsound, answers spent); then as the
- * message is read from left to right 4, 5, 6, or 3 for a known kind out of turn; 7; 8; 9 (reply_len
- * below the reply's length). */
+ * message is read from left to right 4, 5, 6, or 3 for a known kind out of turn; 7; 10; 8; 9
+ * (reply_len below the reply's length). */
 uint64_t lo_holder_answer(uint8_t *state, size_t state_len,
                           const uint8_t *x, size_t x_len, size_t bits,
                           const uint8_t *msg, size_t msg_len,

@@ -1,8 +1,9 @@
 #!/usr/bin/env python3
-"""Prints what document 01 wants of the demonstration program, for the three lines on standard input.
+"""Prints what documents 01 and 02 want of the demonstration program, for the three lines on standard input.
 
-Written from 01's text and nothing else: pieces are a list of texts, repairs are found by trying every candidate, a hash by adding rows,
-an anchor's place by trying every r. data/runs/NAME.out is what this program prints for data/runs/NAME.in.
+Written from the text of 01 and of 02's CR 1 and nothing else: pieces are a list of texts, repairs are found by trying every candidate, a hash
+by adding rows, an anchor's place by trying every r, a column by taking every B-th bit. data/runs/NAME.out is what this program prints for
+data/runs/NAME.in.
 """
 import sys
 from math import isqrt
@@ -46,6 +47,25 @@ def take_out(bits, a):
     return found[0] if found else None
 
 
+def columns(bits, B):
+    return [bits[j::B] for j in range(B)]
+
+
+def woven(parts):
+    """The string whose columns these are."""
+    bits = [None] * sum(len(part) for part in parts)
+    for j, part in enumerate(parts):
+        bits[j::len(parts)] = part
+    return "".join(bits)
+
+
+def repair_run(bits, n, syndromes):
+    """The n bits got by one put-in or take-out in each column, or None if a column has none."""
+    repair = put_in if len(bits) < n else take_out
+    parts = [repair(column, a) for column, a in zip(columns(bits, len(syndromes)), syndromes)]
+    return None if None in parts else woven(parts)
+
+
 def hash_of(bits, h, key):
     total, v = 0, key
     for bit in bits:
@@ -71,12 +91,14 @@ def question_bytes(kind, *fields):
     return number(kind) + b"".join(number(field) for field in fields)
 
 
-def answer_bytes(X, h, key, kind, start, length):
+def answer_bytes(X, h, key, kind, start, length, B=None):
     piece = X[start:start + length]
     if kind == 1:
         return number(1) + number(hash_of(piece, h, key))
     if kind == 2:
         return number(2) + number(syndrome(piece)) + number(hash_of(piece, h, key))
+    if kind == 4:
+        return number(4) + b"".join(number(syndrome(column)) for column in columns(piece, B)) + number(hash_of(piece, h, key))
     return number(3) + packed(piece)
 
 
@@ -88,7 +110,8 @@ def place(anchor, s, p, copy, k):
 
 
 def work(ask, X, m, h, k, key, start, copy, p):
-    """The steps 1 to 4 on the piece X[start:start + p] with its copy: gives rows (start, length, how, bits), left to right, as they settle."""
+    """The steps 1 to 4, and CR 1's between 3 and 4, on the piece X[start:start + p] with its copy: gives rows (start, length, how, bits) as they
+    settle."""
     q = len(copy)
     if p == 0:
         return
@@ -103,6 +126,13 @@ def work(ask, X, m, h, k, key, start, copy, p):
         trial = put_in(copy, syndrome(piece)) if q < p else take_out(copy, syndrome(piece))
         if trial is not None and hash_of(trial, h, key) == hash_of(piece, h, key):
             yield start, p, 2 if q < p else 3, trial
+            return
+    B = abs(p - q)
+    if 2 <= B <= 32:
+        ask(4, start, p, B)
+        trial = repair_run(copy, p, [syndrome(column) for column in columns(piece, B)])
+        if trial is not None and hash_of(trial, h, key) == hash_of(piece, h, key):
+            yield start, p, 6, trial
             return
     if p >= 4 * (m + h) and q >= m:
         c = (p - m) // 2
@@ -130,13 +160,13 @@ def run(m, h, k, key, ceiling, X, Y, show):
         show("Q " + question.hex())
         show("A " + answer.hex())
 
-    def ask(kind, start, length):
+    def ask(*fields):
         # the ceiling is looked at before each question: a piece waits
         nonlocal count, asked
-        if count > ceiling and (kind, start, length) != (3, 0, len(X)):
+        if count > ceiling and fields != (3, 0, len(X)):
             raise CeilingPassed
-        answer = answer_bytes(X, h, key, kind, start, length)
-        exchange(question_bytes(kind, start, length), answer)
+        answer = answer_bytes(X, h, key, *fields)
+        exchange(question_bytes(*fields), answer)
         count += len(answer)
         asked += 1
 

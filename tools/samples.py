@@ -1,5 +1,5 @@
 #!/usr/bin/env python3
-"""Works out crates/samples/stdout from document 01, by brute force over all strings; nothing here follows the code.
+"""Works out crates/samples/stdout from documents 01 and 02, by brute force over all strings; nothing here follows the code.
 
 The last five lines are not worked out but stand here as text: the house settings, and calls that are turned down, after 01's list of
 refusals, with one repair that is done."""
@@ -85,8 +85,9 @@ def questions(x, y):
     return messages("Q", x, y).split(";", 1)[1] + " finished;"
 
 
-print("questions for 63 bits, copy of 80 zeros:" + questions("1" * 63, "0" * 80).split(";")[0] + ";")
-print("questions for 64 ones, copy of 80 zeros:" + questions("1" * 64, "0" * 80))
+# copies that are more than 32 bits longer, so that step 4 comes first
+print("questions for 63 bits, copy of 104 zeros:" + questions("1" * 63, "0" * 104).split(";")[0] + ";")
+print("questions for 64 ones, copy of 104 zeros:" + questions("1" * 64, "0" * 104))
 print("answers for 100:" + messages("A", "100", "0000"))
 print("questions for 100, copy 0000:" + questions("100", "0000"))
 ones = ["0" * r + "1" * 8 + "0" * (58 - r) for r in range(59)]

@@ -36,8 +36,8 @@ pub const REBUILDER_COUNTED: usize = 36;
 /// Rebuilder: rows in use.
 pub const REBUILDER_ROWS: usize = 40;
 /// Rebuilder: what is asked of the leftmost piece: 0 its hash, 1 its syndrome to put a bit in, 2 to
-/// take one out, 3 to 5 the first, second, third anchor, 6 all its bits; 0 if none waits. In phase 2
-/// as the last answer left it.
+/// take one out, 3 to 5 the first, second, third anchor, 6 all its bits, 7 its columns' syndromes; 0
+/// if none waits. In phase 2 as the last answer left it.
 pub const REBUILDER_STAGE: usize = 44;
 /// Rebuilder: waiting pieces.
 pub const REBUILDER_WAITING: usize = 48;

@@ -1,9 +1,10 @@
 //! A host's view of the Lunetteorris synchroniser.
 //!
 //! A holder has a reference X, a rebuilder a copy Y that differs from X by insertions, deletions
-//! and substitutions of bits. The rebuilder asks short questions, the holder answers them, and
-//! in the end the rebuilder has X, except in settled pieces that differ from X's and yet share
-//! length and hash (and syndrome, if used) with them. Carrying the messages is the host's part.
+//! and substitutions of bits, single or in bursts. The rebuilder asks short questions, the holder
+//! answers them, and in the end the rebuilder has X, except in settled pieces that differ from X's
+//! and yet share length and hash (and syndrome or columns' syndromes, if used) with them. Carrying
+//! the messages is the host's part.
 //!
 //! ```
 //! use lunetteorris::{BitString, Holder, Rebuilder, Settings};
@@ -63,7 +64,8 @@ pub const REBUILDER_BYTES: usize = 564;
 pub const ROW_BYTES: usize = 12;
 /// Bytes that each question buffer needs.
 pub const QUESTION_BYTES: usize = 8;
-/// Bytes of the longest reply: 65,536 bits behind their kind.
+/// Bytes of the longest reply: 65,536 bits behind their kind. On n bits the larger of 102 and
+/// 1 + ceil(n/8) is enough.
 pub const REPLY_BYTES: usize = 1 + MAX_BITS / 8;
 
 /// Rows that the sheet needs for a reference of `n` bits and anchors of `m` bits.
@@ -115,7 +117,7 @@ pub trait Ends {
     /// Writes a fresh holder's state to the first [`HOLDER_BYTES`] bytes. Refusal 9.
     fn holder_fresh(state: &mut [u8]) -> u64;
 
-    /// The holder's call: the reply's length. Refusals 2 to 9.
+    /// The holder's call: the reply's length. Refusals 2 to 10.
     fn holder_answer(
         state: &mut [u8],
         x: &[u8],
@@ -150,19 +152,19 @@ pub trait Ends {
     ) -> u64;
 }
 
-/// Packs a result as the C interface does: value * 16 + refusal, one of the two being 0.
+/// Packs a result as the C interface does: value * 256 + refusal, one of the two being 0.
 pub fn pack(result: Result<u64, Refusal>) -> u64 {
     match result {
-        Ok(value) => value * 16,
+        Ok(value) => value * 256,
         Err(refusal) => refusal.number() as u64,
     }
 }
 
 /// Reads a packed result.
 pub fn unpack(packed: u64) -> Result<u64, Refusal> {
-    match (packed % 16) as u8 {
-        0 => Ok(packed / 16),
-        number => Err(Refusal::from_number(number).expect("refusals are 1 to 9")),
+    match (packed % 256) as u8 {
+        0 => Ok(packed / 256),
+        number => Err(Refusal::from_number(number).expect("refusals are 1 to 10")),
     }
 }
 

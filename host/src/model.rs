@@ -1,6 +1,6 @@
-//! The synchroniser written a second time, in Rust: from document 01's text, with the state's
-//! layout and soundness as docs/ gives them, and from nothing of the library's source. The tests
-//! compare the two byte for byte; the benchmark takes it as the baseline.
+//! The synchroniser written a second time, in Rust: from the text of document 01 and of 02's CR 1,
+//! with the state's layout and soundness as docs/ gives them, and from nothing of the library's
+//! source. The tests compare the two byte for byte; the benchmark takes it as the baseline.
 //!
 //! Sections in 01's order: strings, codes and hash, messages, holder, rebuilder. Each call checks
 //! everything that can turn it down before it writes.
@@ -14,6 +14,12 @@ use crate::{
 pub const MAX_ANSWERS: usize = 1_000_000;
 /// The most pieces that wait.
 pub const MAX_WAITING: usize = 32;
+/// The fewest columns of a burst question.
+pub const MIN_COLUMNS: usize = 2;
+/// The most columns of a burst question.
+pub const MAX_COLUMNS: usize = 32;
+/// Bytes that are enough for an answer other than bits: a kind, 32 syndromes, a hash.
+pub const NUMBERS_BYTES: usize = 102;
 
 // Strings
 
@@ -55,6 +61,11 @@ impl<'a> Bits<'a> {
         self.bytes[at / 8] >> (7 - at % 8) & 1 == 1
     }
 
+    /// Every B-th bit from the one at place j on.
+    fn column(self, j: usize, b: usize) -> Column<'a> {
+        Column { bits: self, j, b }
+    }
+
     /// The eight bits from place i on.
     #[inline]
     fn byte(self, i: usize) -> u8 {
@@ -63,6 +74,49 @@ impl<'a> Bits<'a> {
             0 => self.bytes[at / 8],
             shift => self.bytes[at / 8] << shift | self.bytes[at / 8 + 1] >> (8 - shift),
         }
+    }
+}
+
+/// Column j, from 0, of B columns of a range.
+#[derive(Clone, Copy)]
+struct Column<'a> {
+    bits: Bits<'a>,
+    j: usize,
+    b: usize,
+}
+
+/// Bits of column j, from 0, of B columns of n bits.
+fn column_length(n: usize, b: usize, j: usize) -> usize {
+    (n + b - 1 - j) / b
+}
+
+/// Bits that are read one by one.
+trait Source: Copy {
+    fn len(self) -> usize;
+    fn bit(self, i: usize) -> bool;
+}
+
+impl Source for Bits<'_> {
+    #[inline]
+    fn len(self) -> usize {
+        self.len
+    }
+
+    #[inline]
+    fn bit(self, i: usize) -> bool {
+        self.get(i)
+    }
+}
+
+impl Source for Column<'_> {
+    #[inline]
+    fn len(self) -> usize {
+        column_length(self.bits.len, self.b, self.j)
+    }
+
+    #[inline]
+    fn bit(self, i: usize) -> bool {
+        self.bits.get(self.j + i * self.b)
     }
 }
 
@@ -90,27 +144,27 @@ fn write_bits(to: &mut [u8], at: usize, from: Bits) {
 // Codes and hash
 
 /// The sum of i * b_i, i from 1.
-fn weighted_sum(b: Bits) -> usize {
-    (0..b.len).map(|i| if b.get(i) { i + 1 } else { 0 }).sum()
+fn weighted_sum(b: impl Source) -> usize {
+    (0..b.len()).map(|i| if b.bit(i) { i + 1 } else { 0 }).sum()
 }
 
-fn ones(b: Bits) -> usize {
-    (0..b.len).filter(|&i| b.get(i)).count()
+fn ones(b: impl Source) -> usize {
+    (0..b.len()).filter(|&i| b.bit(i)).count()
 }
 
 /// The least place with exactly `count` bits of the value `bit` before it.
-fn place_after(b: Bits, bit: bool, count: usize) -> usize {
+fn place_after(b: impl Source, bit: bool, count: usize) -> usize {
     let mut left = count;
     let mut i = 0;
     while left > 0 {
-        left -= (b.get(i) == bit) as usize;
+        left -= (b.bit(i) == bit) as usize;
         i += 1;
     }
     i
 }
 
-fn syndrome(b: Bits) -> usize {
-    weighted_sum(b) % (b.len + 1)
+fn syndrome(b: impl Source) -> usize {
+    weighted_sum(b) % (b.len() + 1)
 }
 
 /// One bit put in before a place, or the bit at a place taken out.
@@ -125,8 +179,8 @@ enum Edit {
 /// A 0 put in moves each 1 to its right up by one; a 1 put in adds its own place as well. With w
 /// ones in all, a 0 with r ones to its right raises the sum by r, 0 to w, and a 1 with l zeros to
 /// its left by w + 1 + l: each raise from 0 to n, once.
-fn put_in(b: Bits, a: usize) -> Edit {
-    let modulus = b.len + 2;
+fn put_in(b: impl Source, a: usize) -> Edit {
+    let modulus = b.len() + 2;
     let w = ones(b);
     let raise = (a + modulus - weighted_sum(b) % modulus) % modulus;
     if raise <= w {
@@ -141,12 +195,12 @@ fn put_in(b: Bits, a: usize) -> Edit {
 /// A 0 with r ones to its right lowers the sum by r, a 1 with l zeros to its left by w + l.
 /// Modulo n + 1 only 0 and n + 1 are the same; either is the last bit's. A fall of w is the first
 /// bit's.
-fn take_out(b: Bits, a: usize) -> Option<Edit> {
-    let modulus = b.len;
+fn take_out(b: impl Source, a: usize) -> Option<Edit> {
+    let modulus = b.len();
     let w = ones(b);
     let fall = (weighted_sum(b) + modulus - a) % modulus;
     if fall == 0 {
-        return Some(Edit::TakeOut(b.len - 1));
+        return Some(Edit::TakeOut(b.len() - 1));
     }
     if fall == w {
         return Some(Edit::TakeOut(0));
@@ -157,7 +211,16 @@ fn take_out(b: Bits, a: usize) -> Option<Edit> {
     } else {
         place_after(b, true, w - fall)
     };
-    (b.get(place) == bit).then_some(Edit::TakeOut(place))
+    (b.bit(place) == bit).then_some(Edit::TakeOut(place))
+}
+
+/// The edit to `n` bits, one more or one less, with syndrome `a`.
+fn repair(b: impl Source, n: usize, a: usize) -> Option<Edit> {
+    if b.len() < n {
+        Some(put_in(b, a))
+    } else {
+        take_out(b, a)
+    }
 }
 
 /// Writes the edited bits from place `at` on.
@@ -173,6 +236,32 @@ fn write_edited(to: &mut [u8], at: usize, b: Bits, edit: Edit) {
             write_bits(to, at + place, b.range(place + 1, b.len - place - 1));
         }
     }
+}
+
+/// Bit i of the edited bits.
+fn edited_bit(b: impl Source, edit: Edit, i: usize) -> bool {
+    match edit {
+        Edit::PutIn(place, bit) if i == place => bit,
+        Edit::PutIn(place, _) => b.bit(i - (i > place) as usize),
+        Edit::TakeOut(place) => b.bit(i + (i >= place) as usize),
+    }
+}
+
+/// Writes to the first n bits what comes from `b` by one bit put in or taken out in each column, to
+/// these syndromes; false, with some of them written, if a column has no such take-out.
+fn repair_columns(to: &mut [u8], n: usize, b: Bits, syndromes: &[usize]) -> bool {
+    let columns = syndromes.len();
+    for (j, &a) in syndromes.iter().enumerate() {
+        let column = b.column(j, columns);
+        let length = column_length(n, columns, j);
+        let Some(edit) = repair(column, length, a) else {
+            return false;
+        };
+        for i in 0..length {
+            write_bit(to, j + i * columns, edited_bit(column, edit, i));
+        }
+    }
+    true
 }
 
 /// A hash while its bits come in.
@@ -262,6 +351,7 @@ const OPEN: u32 = 0;
 const HASH: u32 = 1;
 const SYNDROME: u32 = 2;
 const BITS: u32 = 3;
+const BURST: u32 = 4;
 
 /// A message read from left to right.
 struct Reader<'a> {
@@ -307,16 +397,16 @@ impl<'a> Reader<'a> {
     }
 }
 
-/// Numbers written as a message. Five of them fit.
+/// Numbers written as a message.
 struct Writer {
-    bytes: [u8; 25],
+    bytes: [u8; NUMBERS_BYTES],
     len: usize,
 }
 
 impl Writer {
     fn new(numbers: &[u32]) -> Writer {
         let mut writer = Writer {
-            bytes: [0; 25],
+            bytes: [0; NUMBERS_BYTES],
             len: 0,
         };
         for &number in numbers {
@@ -451,7 +541,7 @@ fn holder_answer(
     }
     let mut reader = Reader::new(message);
     let kind = reader.number()?;
-    if kind > BITS {
+    if kind > BURST {
         return Err(Refusal::BadKind);
     }
     if (kind == OPEN) == state.opened {
@@ -473,19 +563,39 @@ fn holder_answer(
         Writer::new(&[OPEN, bits as u32]).write_to(reply)?
     } else {
         let (start, len) = (reader.number()? as usize, reader.number()? as usize);
+        let columns = match kind {
+            BURST => Some(reader.number()? as usize),
+            _ => None,
+        };
         reader.end()?;
+        if columns.is_some_and(|b| !(MIN_COLUMNS..=MAX_COLUMNS).contains(&b)) {
+            return Err(Refusal::BadBurst);
+        }
         if len == 0 || start + len > bits {
             return Err(Refusal::OutOfRange);
         }
         let range = Bits::whole(x, bits).range(start, len);
-        reply_on(range, kind, &state, reply)?
+        match columns {
+            Some(b) => reply_on_columns(range, b, &state).write_to(reply)?,
+            None => reply_on(range, kind, &state, reply)?,
+        }
     };
     state.answers += 1;
     state.write(state_bytes);
     Ok(length)
 }
 
-/// Writes the answer to a question on a range of X.
+/// The answer to a question on the B columns of a range of X.
+fn reply_on_columns(range: Bits, b: usize, state: &HolderState) -> Writer {
+    let mut writer = Writer::new(&[BURST]);
+    for j in 0..b {
+        writer.number(syndrome(range.column(j, b)) as u32);
+    }
+    writer.number(hash(range, state.h, state.key));
+    writer
+}
+
+/// Writes the answer to another question on a range of X.
 fn reply_on(
     range: Bits,
     kind: u32,
@@ -518,6 +628,14 @@ struct Piece {
     p: usize,
     y: usize,
     q: usize,
+}
+
+impl Piece {
+    /// B, if the lengths differ by so much that a burst question is asked.
+    fn columns(&self) -> Option<usize> {
+        let b = self.p.abs_diff(self.q);
+        (MIN_COLUMNS..=MAX_COLUMNS).contains(&b).then_some(b)
+    }
 }
 
 #[derive(Clone, Copy, Debug)]
@@ -553,7 +671,7 @@ impl Phase {
 }
 
 /// What is asked of the leftmost piece: its hash; its syndrome, to put a bit in or to take one out;
-/// an anchor; all its bits. In the order of their numbers.
+/// an anchor; all its bits; its columns' syndromes. In the order of their numbers.
 #[derive(Clone, Copy, Debug, PartialEq, Eq)]
 enum Stage {
     Hash,
@@ -563,10 +681,11 @@ enum Stage {
     Anchor2,
     Anchor3,
     AllBits,
+    Columns,
 }
 
 impl Stage {
-    const ALL: [Stage; 7] = [
+    const ALL: [Stage; 8] = [
         Stage::Hash,
         Stage::PutIn,
         Stage::TakeOut,
@@ -574,12 +693,13 @@ impl Stage {
         Stage::Anchor2,
         Stage::Anchor3,
         Stage::AllBits,
+        Stage::Columns,
     ];
 
     /// How many questions the piece has had at most.
     fn questions_had(self) -> usize {
         match self {
-            Stage::Hash | Stage::PutIn | Stage::TakeOut => 0,
+            Stage::Hash | Stage::PutIn | Stage::TakeOut | Stage::Columns => 0,
             Stage::Anchor1 => 1,
             Stage::Anchor2 => 2,
             Stage::Anchor3 => 3,
@@ -593,6 +713,27 @@ const BY_PUT_IN: u32 = 2;
 const BY_TAKE_OUT: u32 = 3;
 const BY_ANCHOR: u32 = 4;
 const BY_BITS: u32 = 5;
+const BY_BURST: u32 = 6;
+
+/// A question after the opening.
+#[derive(Clone, Copy, Debug)]
+struct Question {
+    kind: u32,
+    start: usize,
+    length: usize,
+    /// B; only for a burst.
+    columns: Option<usize>,
+}
+
+impl Question {
+    fn write_to(&self, buffer: &mut [u8]) -> Result<usize, Refusal> {
+        let mut writer = Writer::new(&[self.kind, self.start as u32, self.length as u32]);
+        if let Some(b) = self.columns {
+            writer.number(b as u32);
+        }
+        writer.write_to(buffer)
+    }
+}
 
 /// A rebuilder's state. The leftmost waiting piece is the last one in use.
 #[derive(Clone, Copy, Debug)]
@@ -615,6 +756,8 @@ enum Answer<'a> {
     Hash(u32),
     Syndrome(usize, u32),
     Bits(&'a [u8]),
+    /// The first B are the columns' syndromes.
+    Burst([usize; MAX_COLUMNS], u32),
 }
 
 impl RebuilderState {
@@ -707,7 +850,7 @@ impl RebuilderState {
         }
         let most_questions = 9 * (self.n / settings.m) + 6;
         let whole = 1 + self.n.div_ceil(8);
-        let most_bytes = whole.max(9);
+        let most_bytes = whole.max(NUMBERS_BYTES);
         match self.phase {
             Phase::Opening => {
                 self.n == 0
@@ -751,6 +894,7 @@ impl RebuilderState {
                 self.takes_anchors(piece)
             }
             (Some(_), Stage::AllBits) => true,
+            (Some(piece), Stage::Columns) => piece.columns().is_some(),
         };
         if !stage_suits {
             return false;
@@ -777,13 +921,13 @@ impl RebuilderState {
 
     // What is asked
 
-    /// Whether a piece that hash or syndrome did not settle is long enough for anchors.
+    /// Whether a piece that hash or syndromes did not settle is long enough for anchors.
     fn takes_anchors(&self, piece: Piece) -> bool {
         let settings = &self.settings;
         piece.p >= 4 * (settings.m + settings.h as usize) && piece.q >= settings.m
     }
 
-    /// The stage behind hash and syndrome.
+    /// The stage behind hash and syndromes.
     fn stage_unsettled(&self, piece: Piece) -> Stage {
         if self.takes_anchors(piece) {
             Stage::Anchor1
@@ -799,6 +943,7 @@ impl RebuilderState {
             Some(piece) if piece.q == piece.p => Stage::Hash,
             Some(piece) if piece.q + 1 == piece.p => Stage::PutIn,
             Some(piece) if piece.q == piece.p + 1 => Stage::TakeOut,
+            Some(piece) if piece.columns().is_some() => Stage::Columns,
             Some(piece) => self.stage_unsettled(piece),
         }
     }
@@ -806,7 +951,9 @@ impl RebuilderState {
     /// The stage after an answer that did not settle or split the leftmost piece.
     fn next_stage(&self, piece: Piece) -> Stage {
         match self.stage {
-            Stage::Hash | Stage::PutIn | Stage::TakeOut => self.stage_unsettled(piece),
+            Stage::Hash | Stage::PutIn | Stage::TakeOut | Stage::Columns => {
+                self.stage_unsettled(piece)
+            }
             Stage::Anchor1 => Stage::Anchor2,
             Stage::Anchor2 => Stage::Anchor3,
             Stage::Anchor3 | Stage::AllBits => Stage::AllBits,
@@ -824,17 +971,27 @@ impl RebuilderState {
         }
     }
 
-    /// Kind, start and length of the question that waits. Not for a finished state.
-    fn question(&self) -> (u32, usize, usize) {
+    /// The question that waits. Not for a finished state, nor before the opening's answer.
+    fn question(&self) -> Question {
+        let question = |kind, start, length| Question {
+            kind,
+            start,
+            length,
+            columns: None,
+        };
         if self.phase == Phase::Whole {
-            return (BITS, 0, self.n);
+            return question(BITS, 0, self.n);
         }
         let piece = self.leftmost().expect("a piece waits");
         match self.stage {
-            Stage::Hash => (HASH, piece.x, piece.p),
-            Stage::PutIn | Stage::TakeOut => (SYNDROME, piece.x, piece.p),
-            Stage::AllBits => (BITS, piece.x, piece.p),
-            _ => (BITS, piece.x + self.anchor_offset(piece), self.settings.m),
+            Stage::Hash => question(HASH, piece.x, piece.p),
+            Stage::PutIn | Stage::TakeOut => question(SYNDROME, piece.x, piece.p),
+            Stage::AllBits => question(BITS, piece.x, piece.p),
+            Stage::Columns => Question {
+                columns: piece.columns(),
+                ..question(BURST, piece.x, piece.p)
+            },
+            _ => question(BITS, piece.x + self.anchor_offset(piece), self.settings.m),
         }
     }
 
@@ -842,11 +999,11 @@ impl RebuilderState {
 
     /// Reads the answer to the question that waits.
     fn read_answer<'a>(&self, message: &'a [u8]) -> Result<Answer<'a>, Refusal> {
-        let (awaited, length) = match self.phase {
-            Phase::Opening => (OPEN, 0),
+        let (awaited, length, columns) = match self.phase {
+            Phase::Opening => (OPEN, 0, None),
             _ => {
-                let (kind, _, length) = self.question();
-                (kind, length)
+                let question = self.question();
+                (question.kind, question.length, question.columns)
             }
         };
         let mut reader = Reader::new(message);
@@ -867,6 +1024,20 @@ impl RebuilderState {
                 (
                     Answer::Syndrome(a, hash),
                     a <= length && self.hash_in_range(hash),
+                )
+            }
+            BURST => {
+                let b = columns.expect("a burst question has a number of columns");
+                let mut syndromes = [0; MAX_COLUMNS];
+                let mut kept = true;
+                for (j, a) in syndromes[..b].iter_mut().enumerate() {
+                    *a = reader.number()? as usize;
+                    kept &= *a <= column_length(length, b, j);
+                }
+                let hash = reader.number()?;
+                (
+                    Answer::Burst(syndromes, hash),
+                    kept && self.hash_in_range(hash),
                 )
             }
             _ => {
@@ -924,17 +1095,28 @@ impl RebuilderState {
                 Some(BY_HASH)
             }
             Answer::Syndrome(a, value) => {
-                let (edit, how) = if self.stage == Stage::PutIn {
-                    (Some(put_in(copy, a)), BY_PUT_IN)
+                let how = if self.stage == Stage::PutIn {
+                    BY_PUT_IN
                 } else {
-                    (take_out(copy, a), BY_TAKE_OUT)
+                    BY_TAKE_OUT
                 };
                 // The string is written only when the trial's hash agrees.
-                edit.filter(|&edit| hash_edited(copy, edit, h, key) == value)
+                repair(copy, piece.p, a)
+                    .filter(|&edit| hash_edited(copy, edit, h, key) == value)
                     .map(|edit| {
                         write_edited(string, piece.x, copy, edit);
                         how
                     })
+            }
+            Answer::Burst(syndromes, value) => {
+                let b = piece.columns().expect("the lengths differ by B");
+                let mut trial = [0; MAX_BITS / 8];
+                let repaired = repair_columns(&mut trial, piece.p, copy, &syndromes[..b]);
+                let trial = Bits::whole(&trial, piece.p);
+                (repaired && hash(trial, h, key) == value).then(|| {
+                    write_bits(string, piece.x, trial);
+                    BY_BURST
+                })
             }
             Answer::Bits(bytes) if self.stage == Stage::AllBits => {
                 write_bits(string, piece.x, Bits::whole(bytes, piece.p));
@@ -1088,8 +1270,7 @@ fn rebuilder_call(
     if state.finished() {
         return Ok(0);
     }
-    let (kind, start, length) = state.question();
-    Writer::new(&[kind, start as u32, length as u32]).write_to(question)
+    state.question().write_to(question)
 }
 
 // The C interface
@@ -1128,12 +1309,9 @@ impl Ends for Model {
             return pack(Err(Refusal::BufferTooShort));
         };
         let b = Bits::whole(s, bits);
-        let edit = if bits < n {
-            Some(put_in(b, a))
-        } else {
-            take_out(b, a)
+        let Some(edit) = repair(b, n, a) else {
+            return pack(Ok(0));
         };
-        let Some(edit) = edit else { return pack(Ok(0)) };
         if let Some(last) = out.last_mut() {
             *last = 0;
         }

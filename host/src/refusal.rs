@@ -25,11 +25,13 @@ pub enum Refusal {
     OutOfRange = 8,
     /// 9: a lent buffer or sheet is too short.
     BufferTooShort = 9,
+    /// 10: the number of columns in a burst question is not 2 to 32.
+    BadBurst = 10,
 }
 
 impl Refusal {
     /// All refusals, in the order of their numbers.
-    pub const ALL: [Refusal; 9] = [
+    pub const ALL: [Refusal; 10] = [
         Refusal::BadSetting,
         Refusal::BadString,
         Refusal::OutOfTurn,
@@ -39,9 +41,10 @@ impl Refusal {
         Refusal::TrailingBytes,
         Refusal::OutOfRange,
         Refusal::BufferTooShort,
+        Refusal::BadBurst,
     ];
 
-    /// The refusal's number, 1 to 9.
+    /// The refusal's number, 1 to 10.
     pub const fn number(self) -> u8 {
         self as u8
     }
@@ -70,6 +73,7 @@ impl fmt::Display for Refusal {
             Refusal::TrailingBytes => "bytes follow the end of the message",
             Refusal::OutOfRange => "a value is outside its range",
             Refusal::BufferTooShort => "a buffer or the sheet is too short",
+            Refusal::BadBurst => "the number of columns in a burst question is not 2 to 32",
         };
         write!(f, "refusal {}: {reason}", self.number())
     }

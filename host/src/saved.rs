@@ -49,7 +49,7 @@ pub enum ResumeError {
         /// Bytes that the run needs.
         needed: usize,
     },
-    /// A used row of the saved sheet is none that a run writes: its how is not 1 to 5, or its range
+    /// A used row of the saved sheet is none that a run writes: its how is not 1 to 6, or its range
     /// is empty or past X's end.
     BadRow {
         /// The row's index in the sheet.

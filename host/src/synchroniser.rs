@@ -387,13 +387,22 @@ pub enum How {
     Anchor = 4,
     /// 5: the bits were asked for.
     Bits = 5,
+    /// 6: a bit was put in or taken out in each column.
+    Burst = 6,
 }
 
 impl How {
     /// All of them, in the order of their numbers.
-    pub const ALL: [How; 5] = [How::Hash, How::PutIn, How::TakeOut, How::Anchor, How::Bits];
+    pub const ALL: [How; 6] = [
+        How::Hash,
+        How::PutIn,
+        How::TakeOut,
+        How::Anchor,
+        How::Bits,
+        How::Burst,
+    ];
 
-    /// Its number, 1 to 5.
+    /// Its number, 1 to 6.
     pub const fn number(self) -> u32 {
         self as u32
     }
@@ -432,7 +441,7 @@ impl Iterator for Sheet<'_> {
         Some(Row {
             start: field(row, ROW_START),
             length: field(row, ROW_LENGTH),
-            how: How::from_number(field(row, ROW_HOW)).expect("a used row has a how of 1 to 5"),
+            how: How::from_number(field(row, ROW_HOW)).expect("a used row has a how of 1 to 6"),
         })
     }
 

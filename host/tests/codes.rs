@@ -27,15 +27,15 @@ fn lent(random: &mut Random, longest: usize) -> (Vec<u8>, usize) {
 
 /// Results seen, by refusal number.
 #[derive(Debug, Default)]
-struct Seen([usize; 10]);
+struct Seen([usize; 11]);
 
 impl Seen {
     fn add(&mut self, packed: u64) {
-        self.0[(packed % 16) as usize] += 1;
+        self.0[(packed % 256) as usize] += 1;
     }
 
     fn hold(&self, numbers: &[usize]) {
-        for number in 0..10 {
+        for number in 0..self.0.len() {
             let expected = number == 0 || numbers.contains(&number);
             assert_eq!(self.0[number] > 0, expected, "refusal {number} in {self:?}");
         }
@@ -207,7 +207,7 @@ fn anchors() {
             got, want,
             "{bits} bits {y:02x?}, start {start} q {q} p {p} s {s} m {m} k {k}, {anchor:02x?}"
         );
-        placed += (got >= 16) as usize;
+        placed += (got >= 256) as usize;
         seen.add(got);
     }
     seen.hold(&[1, 2, 8]);

@@ -243,6 +243,12 @@ fn sizes() {
         let mut reply = vec![0; bytes];
         Library::holder_answer(&mut holder.clone(), &x, MAX_BITS, &all, &mut reply)
     });
+    // The reply to a burst question needs its own length: kind, 32 syndromes and a hash of one byte.
+    let burst = message(&[4, 0, MAX_BITS as u32, 32]);
+    least(34, too_short, |bytes| {
+        let mut reply = vec![0; bytes];
+        Library::holder_answer(&mut holder.clone(), &x, MAX_BITS, &burst, &mut reply)
+    });
     // A holder's state in its call.
     least(HOLDER_BYTES, Refusal::OutOfTurn, |bytes| {
         let mut reply = [0; REPLY_BYTES];
@@ -321,8 +327,12 @@ fn refusals() {
     let range = answer(&message(&[0, MAX_BITS as u32 + 1]));
     assert_eq!(answer(&[0, 0]), 0, "X of no bits: finished");
     let turn = answer(&[0, 0]);
+    let mut holder = [0; HOLDER_BYTES];
+    let mut ask = |message: &[u8]| Library::holder_answer(&mut holder, &y, 3, message, &mut [0; 2]);
+    assert_eq!(unpack(ask(&[0, 1, 8, 1])), Ok(2));
+    let burst = ask(&[4, 0, 3, 1]);
     let got = [
-        settings, string, turn, truncated, number, kind, trailing, range, too_short,
+        settings, string, turn, truncated, number, kind, trailing, range, too_short, burst,
     ];
     assert_eq!(got, Refusal::ALL.map(|refusal| refusal.number() as u64));
 }
@@ -397,19 +407,20 @@ fn limits() {
     }
 }
 
-/// The library has each field at its offset: Y is 120 ones; of X, 101 bits, the first anchor asked
-/// for can't be placed, the second can.
+/// The library has each field at its offset: Y is 144 ones; of X, 101 bits, the first anchor asked
+/// for can't be placed, the second can. What it leaves on its left is asked by its columns, then by
+/// its bits.
 #[test]
 fn offsets() {
-    let y = [0xff; 15];
-    let mut state = started(9, &y, 120);
+    let y = [0xff; 18];
+    let mut state = started(9, &y, 144);
     let (mut string, mut sheet) = ([0; 13], [0; ROW_BYTES * sheet_rows(101, 9)]);
     let mut question = [0; QUESTION_BYTES];
     let mut call = |state: &mut [u8], answer: &[u8]| {
         let called = Library::rebuilder_call(
             state,
             &y,
-            120,
+            144,
             &mut string,
             &mut sheet,
             answer,
@@ -417,7 +428,7 @@ fn offsets() {
         );
         decoded(&question[..unpack(called).expect("the answer is taken") as usize])
     };
-    let settings = [9, 10, 5, 77, 500, 120];
+    let settings = [9, 10, 5, 77, 500, 144];
     let head = |state: &[u8]| {
         let offsets = [
             REBUILDER_M,
@@ -445,13 +456,16 @@ fn offsets() {
     assert_eq!((head(&state), run(&state)), (settings, [0; 7]));
     assert_eq!(call(&mut state, &message(&[0, 101])), [3, 46, 9]);
     assert_eq!(run(&state), [1, 101, 1, 0, 0, 3, 1]);
-    assert_eq!(piece(&state, 0), [0, 101, 0, 120]);
+    assert_eq!(piece(&state, 0), [0, 101, 0, 144]);
     assert_eq!(call(&mut state, &[3, 0, 0]), [3, 55, 9]);
     assert_eq!(run(&state), [1, 101, 2, 3, 0, 4, 1]);
-    assert_eq!(call(&mut state, &[3, 0xff, 0x80]), [3, 0, 55]);
-    assert_eq!(run(&state), [1, 101, 3, 6, 1, 6, 2]);
-    assert_eq!(piece(&state, 1), [0, 55, 0, 64]);
-    assert_eq!(piece(&state, 0), [64, 37, 73, 47]);
+    assert_eq!(call(&mut state, &[3, 0xff, 0x80]), [4, 0, 55, 21]);
+    assert_eq!(run(&state), [1, 101, 3, 6, 1, 7, 2]);
+    assert_eq!(piece(&state, 1), [0, 55, 0, 76]);
+    assert_eq!(piece(&state, 0), [64, 37, 85, 59]);
+    // Four ones have no take-out of syndrome 0: three ones have 2.
+    assert_eq!(call(&mut state, &[&[4][..], &[0; 22]].concat()), [3, 0, 55]);
+    assert_eq!(run(&state), [1, 101, 4, 29, 1, 6, 2]);
     assert_eq!(head(&state), settings);
     assert_eq!(REBUILDER_PIECES + 32 * 16, REBUILDER_BYTES);
     let row = [ROW_START, ROW_LENGTH, ROW_HOW].map(|at| field(&sheet, at));

@@ -13,7 +13,7 @@ use lunetteorris::{
 
 /// Calls made, by refusal number; 0 counts those taken.
 #[derive(Debug, Default)]
-struct Seen([usize; 10]);
+struct Seen([usize; 11]);
 
 impl Seen {
     fn add(&mut self, outcome: Outcome) -> Outcome {
@@ -31,7 +31,7 @@ impl Seen {
     }
 }
 
-const ALL: [usize; 9] = [0, 2, 3, 4, 5, 6, 7, 8, 9];
+const ALL: [usize; 10] = [0, 2, 3, 4, 5, 6, 7, 8, 9, 10];
 
 // Cases
 
@@ -85,7 +85,7 @@ fn cases(
 ) -> (Vec<HolderCase>, Vec<RebuilderCase>) {
     let (n, y_bits) = (x.len(), y.len());
     let (x, y) = (packed(x).into_bytes(), packed(y).into_bytes());
-    let holder = fresh_holder(random, 1 + n.div_ceil(8).max(8));
+    let holder = fresh_holder(random, reply_bytes(n));
     let (rebuilder, length) = started(random, settings, &y, y_bits, n);
     let message = rebuilder.question[..length].to_vec();
     let mut holder = HolderCase {
@@ -196,9 +196,10 @@ fn damaged_messages(random: &mut Random, message: &[u8]) -> Vec<Vec<u8>> {
     ];
     for number in numbers {
         all.push(number.to_vec());
-        for kind in 0..=4 {
+        for kind in 0..=5 {
             all.push([&[kind][..], number].concat());
             all.push([&[kind][..], number, number].concat());
+            all.push([&[kind][..], number, number, number].concat());
         }
     }
     all
@@ -342,7 +343,7 @@ fn messages_to_the_holder() {
             }
         }
     }
-    seen.hold(30_000, &[0, 3, 4, 5, 6, 7, 8]);
+    seen.hold(30_000, &[0, 3, 4, 5, 6, 7, 8, 10]);
 }
 
 /// Any two bytes, and questions on all ranges around a short X.
@@ -373,6 +374,18 @@ fn all_short_messages() {
             .compare(&mut seen);
         }
     }
+    for b in [0, 1, 2, 5, 32, 33] {
+        for start in 0..=210 {
+            for length in 0..=210 {
+                let message = message(&[4, start, length, b]);
+                HolderCase {
+                    message,
+                    ..holders[3].clone()
+                }
+                .compare(&mut seen);
+            }
+        }
+    }
     for kind in 1..=3 {
         for start in 0..=210 {
             for length in 0..=210 {
@@ -385,7 +398,7 @@ fn all_short_messages() {
             }
         }
     }
-    seen.hold(390_000, &[0, 3, 4, 5, 6, 8]);
+    seen.hold(650_000, &[0, 3, 4, 5, 6, 8, 10]);
 }
 
 #[test]
@@ -426,7 +439,9 @@ fn fields_of_a_holder_state() {
         message(&[2, 0, 37]),
         message(&[3, 30, 7]),
         message(&[3, 30, 8]),
-        message(&[4]),
+        message(&[4, 0, 37, 5]),
+        message(&[4, 0, 38, 33]),
+        message(&[5]),
         vec![],
         vec![0x80],
         vec![0x80, 0],
@@ -459,7 +474,7 @@ fn fields_of_a_holder_state() {
             }
         }
     }
-    seen.hold(30_000, &[0, 2, 3, 4, 5, 6, 8]);
+    seen.hold(30_000, &[0, 2, 3, 4, 5, 6, 8, 10]);
 }
 
 /// Each number in place of opened, phase or stage. One that none has gets 3, for a string of any
@@ -468,7 +483,7 @@ fn fields_of_a_holder_state() {
 fn numbers_that_none_has() {
     let random = &mut Random::new(43);
     let mut seen = Seen::default();
-    let mut sound = [0; 7];
+    let mut sound = [0; 8];
     let any = |random: &mut Random| {
         let any = random.number() | 8;
         [any, 1 << 8, 1 << 16, 1 << 31, u32::MAX]
@@ -476,7 +491,7 @@ fn numbers_that_none_has() {
     for _ in 0..60 {
         let (holders, rebuilders) = short_run(random, 300);
         for case in rebuilders {
-            for (at, known) in [(PHASE, 3), (STAGE, 7)] {
+            for (at, known) in [(PHASE, 3), (STAGE, 8)] {
                 for number in (0..10).chain(any(random)) {
                     let mut case = case.clone();
                     set_field(&mut case.side.state, at, number);
@@ -547,19 +562,25 @@ fn stages_and_lengths() {
     let (m, h, n) = (8, 9, 200);
     let y = vec![0; 25];
     // 4(m + h) = 68.
-    for p in [1, 2, 7, 8, 9, 67, 68, 69, 200] {
-        for q in [0, 1, 2, 3, 6, 7, 8, 9, 10, 66, 67, 68, 69, 70, 199, 200] {
-            for stage in 0..8 {
+    for p in [1u32, 2, 7, 8, 9, 67, 68, 69, 200] {
+        let near = [0, 1, 2, 3, 6, 7, 8, 9, 10, 66, 67, 68, 69, 70, 199, 200];
+        // Bursts at their limits, and one bit past them.
+        let bursts = [2, 32, 33]
+            .into_iter()
+            .flat_map(|b: u32| [p + b, p.saturating_sub(b)]);
+        for q in near.into_iter().chain(bursts).filter(|&q| q <= 200) {
+            for stage in 0..9 {
                 let suits = match stage {
                     0 => q == p,
                     1 => q + 1 == p,
                     2 => q == p + 1,
                     3..=5 => p >= 68 && q >= 8,
                     6 => true,
+                    7 => (2..=32).contains(&p.abs_diff(q)),
                     _ => false,
                 };
                 // 9 floor(n/m) + 6 in all, 9 floor(p/m) + 5 for the piece but for those it had.
-                let had = [0, 0, 0, 1, 2, 3, 4, 5][stage as usize];
+                let had = [0, 0, 0, 1, 2, 3, 4, 0, 0][stage as usize];
                 let most = 9 * 25 + 6 + had - (9 * (p / 8) + 5);
                 for (answered, within) in [(0, false), (1, true), (most, true), (most + 1, false)] {
                     let mut state = vec![0; REBUILDER_BYTES];
@@ -596,6 +617,201 @@ fn stages_and_lengths() {
         }
     }
     seen.hold(4_000, &[3, 4]);
+}
+
+/// Questions of kind 4 to the holder: ranges, B, reply buffers and trailing bytes, with the order of
+/// refusals 7, 10, 8, 9.
+#[test]
+fn burst_questions() {
+    let random = &mut Random::new(44);
+    let mut seen = Seen::default();
+    let n = 70;
+    let x = packed(&random_bits(random, n)).into_bytes();
+    let mut side = fresh_holder(random, reply_bytes(n));
+    let unopened = side.clone();
+    holder_call(&mut side, &x, n, &message(&[0, 1, 32, 77])).unwrap();
+    let numbers = [0, 1, 2, 3, 31, 32, 33, 34, 64, 127, 128, 16_384, u32::MAX];
+    for b in numbers {
+        for start in [0, 1, 35, 69, 70, 71, u32::MAX] {
+            for length in [0, 1, 2, 31, 32, 33, 35, 69, 70, 71, u32::MAX] {
+                let question = message(&[4, start, length, b]);
+                let case = HolderCase {
+                    side: side.clone(),
+                    x: x.clone(),
+                    bits: n,
+                    message: question.clone(),
+                };
+                let in_x = length > 0 && start as u64 + length as u64 <= n as u64;
+                let refusal = if !(2..=32).contains(&b) {
+                    Some(Refusal::BadBurst)
+                } else if !in_x {
+                    Some(Refusal::OutOfRange)
+                } else {
+                    None
+                };
+                let (outcome, after) = case.clone().call(&mut seen);
+                assert_eq!(outcome.err(), refusal, "{question:?}");
+                let with = |message: Vec<u8>, reply: usize| {
+                    let mut case = case.clone();
+                    case.message = message;
+                    case.side.reply.truncate(reply);
+                    case
+                };
+                let trailing = with([&question[..], &[0]].concat(), 0);
+                let truncated = with(question[..question.len() - 1].to_vec(), 0);
+                let bad_number = with([&question[..question.len() - 1], &[0x80, 0]].concat(), 0);
+                for (case, wanted) in [
+                    (trailing, Refusal::TrailingBytes),
+                    (truncated, Refusal::Truncated),
+                    (bad_number, Refusal::BadNumber),
+                ] {
+                    // A cut B of two bytes may be a whole number: the call is compared only.
+                    let outcome = case.call(&mut seen).0;
+                    assert!(b >= 128 || outcome == Err(wanted), "{question:?}");
+                }
+                let mut early = case.clone();
+                early.side = unopened.clone();
+                assert_eq!(early.call(&mut seen).0, Err(Refusal::OutOfTurn));
+                match outcome {
+                    Err(refusal) => {
+                        let short = with(question, 0);
+                        assert_eq!(short.call(&mut seen).0, Err(refusal));
+                    }
+                    Ok(replied) => {
+                        let answer = decoded(&after.reply[..replied]);
+                        assert_eq!(answer.len(), b as usize + 2);
+                        for reply in [0, 1, replied - 1] {
+                            let short = with(question.clone(), reply);
+                            assert_eq!(short.call(&mut seen).0, Err(Refusal::BufferTooShort));
+                        }
+                        let exact = with(question, replied);
+                        assert_eq!(exact.call(&mut seen).0, Ok(replied));
+                    }
+                }
+            }
+        }
+    }
+    seen.hold(5_000, &[0, 3, 4, 5, 7, 8, 9, 10]);
+}
+
+/// A sound state whose one piece of p bits with q of Y is asked by its columns.
+fn burst_case(random: &mut Random, h: u32, p: usize, q: usize) -> RebuilderCase {
+    let y = packed(&random_bits(random, q)).into_bytes();
+    let mut state = vec![0; REBUILDER_BYTES];
+    let head = [8, h, 1, 1, 16_384, q as u32, 1, p as u32, 1, 0, 0, 7, 1];
+    let piece = [0, p as u32, 0, q as u32];
+    for (i, value) in head.into_iter().chain(piece).enumerate() {
+        set_field(&mut state, 4 * i, value);
+    }
+    assert!(rebuilder_sound(&state));
+    let side = RebuilderSide {
+        state,
+        string: vec![0; p.div_ceil(8)],
+        sheet: vec![0; ROW_BYTES * sheet_rows(p, 8)],
+        question: vec![0xee; QUESTION_BYTES],
+    };
+    RebuilderCase {
+        side,
+        y,
+        bits: q,
+        message: vec![],
+        n: p,
+    }
+}
+
+/// Answers of kind 4 to the rebuilder: each syndrome at its column's length and above it, the hash at
+/// its limit and above it, a number too few or too many, buffers too short.
+#[test]
+fn burst_answers() {
+    let random = &mut Random::new(45);
+    let mut seen = Seen::default();
+    for (p, q) in [
+        (1usize, 3usize),
+        (1, 33),
+        (2, 0),
+        (3, 7),
+        (5, 3),
+        (31, 33),
+        (32, 0),
+        (33, 1),
+        (40, 8),
+        (63, 70),
+        (64, 96),
+        (300, 290),
+        (4_500, 4_532),
+    ] {
+        for h in [8, 19, 32] {
+            let b = p.abs_diff(q);
+            let case = burst_case(random, h, p, q);
+            let lengths: Vec<u32> = (0..b).map(|j| ((p + b - 1 - j) / b) as u32).collect();
+            let call = |syndromes: &[u32], hash: u64, tail: &[u8], seen: &mut Seen| {
+                // A hash of 2^32 needs a fifth byte above 0f.
+                let hash = match u32::try_from(hash) {
+                    Ok(hash) => encoded(hash),
+                    Err(_) => vec![0x80, 0x80, 0x80, 0x80, 0x10],
+                };
+                let mut case = case.clone();
+                case.message = [&message(&[4])[..], &message(syndromes), &hash, tail].concat();
+                case.call(seen).0
+            };
+            let past = if h == 32 {
+                Refusal::BadNumber
+            } else {
+                Refusal::OutOfRange
+            };
+            let most = (1 << h) - 1;
+            assert!(call(&lengths, most, &[], &mut seen).is_ok());
+            assert!(call(&vec![0; b], 0, &[], &mut seen).is_ok());
+            assert_eq!(call(&lengths, most + 1, &[], &mut seen), Err(past));
+            assert_eq!(
+                call(&lengths, most, &[0], &mut seen),
+                Err(Refusal::TrailingBytes)
+            );
+            for j in 0..b {
+                let mut above = lengths.clone();
+                for value in [lengths[j] + 1, lengths[j] + 2, p as u32 + 1, u32::MAX] {
+                    above[j] = value;
+                    assert_eq!(
+                        call(&above, most, &[], &mut seen),
+                        Err(Refusal::OutOfRange),
+                        "p {p}, q {q}, column {j}, syndrome {value}"
+                    );
+                    // 7 comes before 8.
+                    assert_eq!(
+                        call(&above, most, &[1], &mut seen),
+                        Err(Refusal::TrailingBytes)
+                    );
+                }
+            }
+            // One syndrome left out: the hash is read in its place, and the message ends too early.
+            assert_eq!(
+                call(&vec![0; b - 1], 0, &[], &mut seen),
+                Err(Refusal::Truncated)
+            );
+            for kind in [0, 1, 2, 3, 5] {
+                let mut other = case.clone();
+                other.message = [&message(&[kind])[..], &vec![0; b + 1]].concat();
+                assert_eq!(other.call(&mut seen).0, Err(Refusal::BadKind));
+            }
+            let mut taken = case.clone();
+            taken.message = [&[4][..], &vec![0; b + 1]].concat();
+            for side in other_buffers(&taken.side, p) {
+                RebuilderCase {
+                    side,
+                    ..taken.clone()
+                }
+                .compare(&mut seen);
+            }
+            for message in damaged_messages(random, &taken.message) {
+                RebuilderCase {
+                    message,
+                    ..taken.clone()
+                }
+                .compare(&mut seen);
+            }
+        }
+    }
+    seen.hold(20_000, &[0, 3, 4, 5, 6, 7, 8, 9]);
 }
 
 #[test]
@@ -923,7 +1139,7 @@ fn formed_answer(random: &mut Random, state: &[u8], y: &[bool], longest: usize) 
             let a = random.between(0, p);
             let s = packed(copy);
             let mut out = vec![0; p.div_ceil(8)];
-            let done = Model::repair(s.as_bytes(), q, p, a, &mut out) == 16;
+            let done = unpack(Model::repair(s.as_bytes(), q, p, a, &mut out)) == Ok(1);
             let hash = if done && settles {
                 hash_of(&unpacked(&out, p))
             } else {
@@ -932,6 +1148,31 @@ fn formed_answer(random: &mut Random, state: &[u8], y: &[bool], longest: usize) 
             message(&[2, a as u32, hash])
         }
         6 => bits_answer(&random_bits(random, p)),
+        7 => {
+            // One bit is put in or taken out in each column, at any place.
+            let mut repaired = columns(copy, p.abs_diff(q));
+            for column in &mut repaired {
+                if q < p {
+                    column.insert(random.below(column.len() + 1), random.bit());
+                } else {
+                    column.remove(random.below(column.len()));
+                }
+            }
+            let mut answer = vec![4];
+            for column in &repaired {
+                let s = packed(column);
+                let a = unpack(Model::syndrome(s.as_bytes(), s.bits())).unwrap() as u32;
+                let any = random.between(0, column.len()) as u32;
+                let damaged = !settles && random.below(20) == 0;
+                answer.push(if damaged { any } else { a });
+            }
+            answer.push(if settles {
+                hash_of(&woven(&repaired))
+            } else {
+                any_hash
+            });
+            message(&answer)
+        }
         _ => {
             let m = field(state, M);
             let r = random.between(0, q - m);
@@ -949,13 +1190,13 @@ fn check_finished(side: &RebuilderSide) {
     let (n, m, ceiling) = (field(state, N), field(state, M), field(state, CEILING));
     let whole = 1 + n.div_ceil(8);
     assert!(field(state, ANSWERED) <= 9 * (n / m) + 6);
-    assert!(field(state, COUNTED) <= ceiling + whole + whole.max(9));
+    assert!(field(state, COUNTED) <= ceiling + whole + whole.max(102));
     let mut rows = rows(state, &side.sheet);
     rows.sort();
     let mut end = 0;
     for [start, length, how] in rows {
         assert_eq!(start, end);
-        assert!(length > 0 && (1..=5).contains(&how));
+        assert!(length > 0 && (1..=6).contains(&how));
         end += length;
     }
     assert_eq!(end, n);
@@ -972,13 +1213,11 @@ fn runs_with_any_answers() {
         let y = reference(random, kind, y_bits);
         let y_packed = packed(&y);
         let settings = settings(random);
-        // A bit count of X near Y's makes hash and syndrome questions.
+        // A bit count of X near Y's makes hash, syndrome and burst questions.
         let near = (y_bits + random.below(5)).saturating_sub(2);
-        let n = if random.bit() {
-            near
-        } else {
-            random.between(0, longest)
-        };
+        let burst = (y_bits + random.below(69)).saturating_sub(34);
+        let any = random.between(0, longest);
+        let n = random.pick(&[near, burst, any, any]);
         let (side, _) = started(random, settings, y_packed.as_bytes(), y_bits, n);
         let message = message(&[0, n as u32]);
         let y_bytes = y_packed.into_bytes();
@@ -1018,7 +1257,9 @@ fn runs_with_altered_states() {
             ceiling: 16_384,
             ..settings(random)
         };
-        let n = (y_bits + random.below(5)).saturating_sub(2);
+        let near = (y_bits + random.below(5)).saturating_sub(2);
+        let burst = (y_bits + random.below(69)).saturating_sub(34);
+        let n = random.pick(&[near, burst]);
         let (side, _) = started(random, numbers, y_packed.as_bytes(), y_bits, n);
         let message = message(&[0, n as u32]);
         let y_bytes = y_packed.into_bytes();
@@ -1144,7 +1385,10 @@ fn made_up_state(random: &mut Random, y_bits: usize) -> Vec<u8> {
         };
         let left = y_bits.saturating_sub(y);
         let q_any = random.between(0, 2 * p + 2);
-        let q = random.pick(&[p, p + 1, p - 1, q_any]).min(left);
+        let b = random.pick(&[2, 2, 7, 31, 32, 32, 33]);
+        let burst = random.pick(&[p + b, p.saturating_sub(b)]);
+        let q = random.pick(&[p, p + 1, p - 1, burst, burst, q_any]);
+        let q = q.min(left);
         let q = if wrong == Copy && wrong_at == i {
             left + 1
         } else {
@@ -1167,10 +1411,15 @@ fn made_up_state(random: &mut Random, y_bits: usize) -> Vec<u8> {
     let stages: Vec<u32> = match leftmost_of(&state, waiting) {
         None => vec![0],
         Some([_, p, _, q]) => {
-            let first = [q == p, q + 1 == p, q == p + 1]
-                .iter()
-                .position(|&suits| suits);
-            let first = first.map_or(vec![], |stage| vec![stage as u32; 2]);
+            let first = [
+                (q == p, 0),
+                (q + 1 == p, 1),
+                (q == p + 1, 2),
+                (is_burst(p, q), 7),
+            ]
+            .into_iter()
+            .find(|&(suits, _)| suits);
+            let first = first.map_or(vec![], |(_, stage)| vec![stage; 2]);
             let anchors: &[u32] = if p >= 4 * (m + h) as usize && q >= m_bits {
                 &[3, 4, 5]
             } else {
@@ -1180,7 +1429,7 @@ fn made_up_state(random: &mut Random, y_bits: usize) -> Vec<u8> {
         }
     };
     let stage = if wrong == Stage {
-        random.below(8) as u32
+        random.below(9) as u32
     } else {
         random.pick(&stages)
     };
@@ -1197,7 +1446,7 @@ fn made_up_state(random: &mut Random, y_bits: usize) -> Vec<u8> {
         _ => (most_questions + questions_had(stage)).saturating_sub(to_ask),
     };
     let answered = near(random, most_answered, wrong == Answered).max(1);
-    let over = ceiling as usize + whole.max(9);
+    let over = ceiling as usize + whole.max(102);
     let counted = match phase {
         2 if wrong == Counted => random.pick(&[ceiling as usize, over + 1]),
         2 => random.between(ceiling as usize + 1, over),
@@ -1223,6 +1472,7 @@ fn made_up_states() {
     let random = &mut Random::new(40);
     let mut seen = Seen::default();
     let (mut sound, mut unsound) = (0, 0);
+    let mut columns_asked = 0;
     for _ in 0..60 {
         let y_bits = random.pick(&[0, 60, 1_000, 2_501, 3_000]);
         let y = random_bits(random, y_bits);
@@ -1233,10 +1483,11 @@ fn made_up_states() {
             let is_sound = rebuilder_sound(&state);
             let goes_on = is_sound && (field(&state, PHASE) != 1 || field(&state, WAITING) > 0);
             *if is_sound { &mut sound } else { &mut unsound } += 1;
+            columns_asked += (goes_on && field(&state, STAGE) == 7) as usize;
             let message = if goes_on {
                 formed_answer(random, &state, &y, n)
             } else {
-                vec![random.below(4) as u8, 0]
+                vec![random.below(5) as u8, 0]
             };
             let side = RebuilderSide {
                 state,
@@ -1260,6 +1511,7 @@ fn made_up_states() {
         sound > 5_000 && unsound > 5_000,
         "{sound} sound, {unsound} not"
     );
+    assert!(columns_asked > 500, "{columns_asked} at columns");
     seen.hold(30_000, &[0, 3]);
 }
 

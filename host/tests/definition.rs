@@ -1,5 +1,5 @@
-//! Library and model against a slow, direct reading of 01: every repair tried, every place
-//! looked at, pieces kept in a plain list, nothing packed and no state between calls.
+//! Library and model against a slow, direct reading of 01 and of 02's CR 1: every repair tried, every
+//! place looked at, pieces kept in a plain list, nothing packed and no state between calls.
 
 mod common;
 
@@ -64,6 +64,21 @@ fn shorter(b: &[bool]) -> BTreeSet<Vec<bool>> {
 
 fn with_syndrome(all: BTreeSet<Vec<bool>>, a: usize) -> Vec<Vec<bool>> {
     all.into_iter().filter(|s| syndrome(s) == a).collect()
+}
+
+/// One bit put in or taken out to n bits of this syndrome.
+fn one_bit(b: &[bool], n: usize, a: usize) -> Option<Vec<bool>> {
+    let all = if b.len() < n { longer(b) } else { shorter(b) };
+    with_syndrome(all, a).pop()
+}
+
+/// One bit put in or taken out in each column, to the syndromes of the original's columns.
+fn one_bit_a_column(original: &[bool], copy: &[bool], b: usize) -> Option<Vec<bool>> {
+    let pairs = columns(original, b).into_iter().zip(columns(copy, b));
+    let repaired: Option<Vec<_>> = pairs
+        .map(|(original, copy)| one_bit(&copy, original.len(), syndrome(&original)))
+        .collect();
+    repaired.map(|columns| woven(&columns))
 }
 
 fn repaired<E: Ends>(b: &[bool], n: usize, a: usize) -> Option<Vec<bool>> {
@@ -218,6 +233,7 @@ struct Direct<'a> {
 enum Question {
     Hash,
     Syndrome,
+    Burst(usize),
     Anchor(usize),
     Bits,
 }
@@ -254,6 +270,9 @@ impl Direct<'_> {
         if q + 1 == p || q == p + 1 {
             questions.push(Question::Syndrome);
         }
+        if is_burst(p, q) {
+            questions.push(Question::Burst(p.abs_diff(q)));
+        }
         if !(p < 4 * (m + h) || q < m) {
             let c = (p - m) / 2;
             questions.extend([c, c + m, c - m].map(Question::Anchor));
@@ -278,16 +297,22 @@ impl Direct<'_> {
             }
             Question::Syndrome => {
                 let a = syndrome(original);
-                let (all, how) = if q < p {
-                    (longer(copy), 2)
-                } else {
-                    (shorter(copy), 3)
-                };
-                let found = with_syndrome(all, a).pop();
+                let how = if q < p { 2 } else { 3 };
+                let found = one_bit(copy, p, a);
                 self.ask(&[2, range[0], range[1]], message(&[2, a as u32, value]));
                 found
                     .filter(|s| hash(s, h, &self.hash_rows) == value)
                     .map(|s| (s, how))
+            }
+            Question::Burst(b) => {
+                let mut answer = vec![4];
+                answer.extend(columns(original, b).iter().map(|c| syndrome(c) as u32));
+                answer.push(value);
+                let found = one_bit_a_column(original, copy, b);
+                self.ask(&[4, range[0], range[1], b as u32], message(&answer));
+                found
+                    .filter(|s| hash(s, h, &self.hash_rows) == value)
+                    .map(|s| (s, 6))
             }
             Question::Bits => Some((self.ask_bits(x, p), 5)),
             Question::Anchor(s) => {
@@ -370,7 +395,7 @@ fn direct(x: &[bool], y: &[bool], settings: Numbers) -> Record {
 fn called(random: &mut Random, x: &[bool], y: &[bool], settings: Numbers) -> Record {
     let (n, y_bits) = (x.len(), y.len());
     let (x, y) = (packed(x), packed(y));
-    let mut holder = fresh_holder(random, 1 + n.div_ceil(8).max(8));
+    let mut holder = fresh_holder(random, reply_bytes(n));
     let (mut rebuilder, mut length) = started(random, settings, y.as_bytes(), y_bits, n);
     let mut messages = Vec::new();
     while length > 0 {
@@ -391,7 +416,7 @@ fn called(random: &mut Random, x: &[bool], y: &[bool], settings: Numbers) -> Rec
 #[test]
 fn whole_runs() {
     let random = &mut Random::new(4);
-    let mut how = [0; 6];
+    let mut how = [0; 7];
     for _ in 0..1_500 {
         let longest = random.pick(&[10, 100, 600]);
         let n = random.between(0, longest);
@@ -411,4 +436,39 @@ fn whole_runs() {
         how[1..].iter().all(|&rows| rows > 100),
         "rows by how: {how:?}"
     );
+}
+
+/// Runs of two to 34 bits lost or gained, at each place of short strings; the copy of a few bits or
+/// none, and pieces of fewer bits than the run.
+#[test]
+fn single_bursts() {
+    let random = &mut Random::new(5);
+    let (mut exact, mut others) = (0, 0);
+    for b in [2, 3, 4, 7, 8, 16, 31, 32, 33, 34] {
+        for n in [1, 2, 3, 5, 8, 31, 32, 33, 40, 64, 90] {
+            for at in (0..=n).step_by(1 + n / 12) {
+                let x = random_bits(random, n);
+                let mut longer = x.clone();
+                longer.splice(at..at, random_bits(random, b));
+                let settings = Numbers {
+                    ceiling: 16_384,
+                    ..settings(random)
+                };
+                // X from the longer string, and the longer string from X.
+                for (x, y) in [(&x, &longer), (&longer, &x)] {
+                    let want = direct(x, y, settings);
+                    assert_eq!(called(random, x, y, settings), want, "{x:?} {y:?}");
+                    if b <= 32 {
+                        assert_eq!(want.rows, [[0, x.len(), 6]], "{x:?} {y:?}");
+                        assert_eq!(want.string, *x);
+                        exact += 1;
+                    } else {
+                        assert_ne!(want.messages[2][0], 4);
+                        others += 1;
+                    }
+                }
+            }
+        }
+    }
+    assert!(exact > 1_000 && others > 200, "{exact} and {others}");
 }

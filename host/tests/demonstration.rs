@@ -1,5 +1,5 @@
 //! The demonstration program on the stored runs in data/runs: what it prints for NAME.in is NAME.out.
-//! The stored output is what document 01 wants, worked out by tools/runs.py.
+//! The stored output is what documents 01 and 02 want, worked out by tools/runs.py.
 #![cfg(not(feature = "model-only"))]
 
 use std::env;
@@ -43,7 +43,7 @@ fn stored_runs() {
         .filter(|path| path.extension().is_some_and(|end| end == "in"))
         .collect();
     inputs.sort();
-    assert!(inputs.len() >= 46, "{} stored runs", inputs.len());
+    assert!(inputs.len() >= 90, "{} stored runs", inputs.len());
     for input in inputs {
         let stored = fs::read_to_string(input.with_extension("out")).expect("the stored output");
         assert_eq!(printed(&input), stored, "{}", input.display());

@@ -1,5 +1,5 @@
 //! Whole honest runs on library and model. After every call result, state, string, sheet, reply
-//! and question are compared byte for byte; each run is held to what 01 says of it.
+//! and question are compared byte for byte; each run is held to what 01 and 02 say of it.
 
 mod common;
 
@@ -29,19 +29,30 @@ fn deletes_to(long: &[bool], short: &[bool]) -> bool {
     long.len() == short.len() + 1 && long[same + 1..] == short[same..]
 }
 
+/// Whether deleting one run of bits of `long` gives `short`.
+fn loses_run_to(long: &[bool], short: &[bool]) -> bool {
+    let Some(b) = long.len().checked_sub(short.len()) else {
+        return false;
+    };
+    let same = long.iter().zip(short).take_while(|(a, b)| a == b).count();
+    long[same + b..] == short[same..]
+}
+
 /// Totals over many runs, to see that the inputs reach every case.
 #[derive(Debug, Default)]
 struct Tally {
     runs: usize,
     calls: usize,
-    rows: [usize; 6],
+    rows: [usize; 7],
     whole: usize,
     most_waiting: usize,
     /// Questions asked of pieces, by stage.
-    stages: [usize; 7],
+    stages: [usize; 8],
     wrong_strings: usize,
     unsettled_hashes: usize,
     unsettled_syndromes: usize,
+    unsettled_bursts: usize,
+    exact_bursts: usize,
 }
 
 struct Run<'a> {
@@ -65,15 +76,18 @@ impl Run<'_> {
         field(&self.rebuilder.state, at)
     }
 
-    /// Before the call: a piece whose copy is equal or one deletion or insertion away is settled
-    /// by the answer on its hash or syndrome, with X's own bits.
+    /// Before the call: a piece whose copy is equal, or lost or gained one bit or one run of B bits,
+    /// is settled by the answer on its hash or syndromes, with X's own bits.
     fn exact(&self) -> Option<[usize; 3]> {
         let [x, p, y, q] = leftmost(&self.rebuilder.state)?;
-        if self.state(PHASE) != 1 || self.state(STAGE) > 2 {
+        if self.state(PHASE) != 1 || !tries(self.state(STAGE)) {
             return None;
         }
         let (original, copy) = (&self.x[x..x + p], &self.y[y..y + q]);
-        if original == copy {
+        if self.state(STAGE) == 7 {
+            let one_run = loses_run_to(original, copy) || loses_run_to(copy, original);
+            one_run.then_some([x, p, 6])
+        } else if original == copy {
             Some([x, p, 1])
         } else if deletes_to(original, copy) {
             Some([x, p, 2])
@@ -92,7 +106,7 @@ impl Run<'_> {
         assert_eq!(self.state(COUNTED), answer_bytes);
         assert_eq!(field(&self.holder.state, HOLDER_ANSWERS), answers);
         assert!(answers <= 9 * (n / m) + 6);
-        assert!(answer_bytes <= self.settings.ceiling as usize + whole + whole.max(9));
+        assert!(answer_bytes <= self.settings.ceiling as usize + whole + whole.max(102));
         assert!(self.state(ROWS) <= sheet_rows(n, m));
         assert!(self.state(WAITING) <= 32);
         // Past the ceiling nothing but the whole string is asked for.
@@ -102,7 +116,7 @@ impl Run<'_> {
     }
 
     /// At the end: rows cover X once; what a row settled has X's bits, or X's length and hash (and
-    /// syndrome).
+    /// syndrome; a burst's B is not in its row).
     fn check_end(&self, tally: &mut Tally) {
         let string = self.string();
         let mut rows = self.rows();
@@ -114,11 +128,11 @@ impl Run<'_> {
             end += length;
             tally.rows[how] += 1;
             let (got, want) = (&string[start..end], &self.x[start..end]);
-            if how >= 4 {
+            if how == 4 || how == 5 {
                 assert_eq!(got, want);
             } else if got != want {
                 assert_eq!(hash(got, self.settings), hash(want, self.settings));
-                assert!(how == 1 || syndrome(got) == syndrome(want));
+                assert!(how == 1 || how == 6 || syndrome(got) == syndrome(want));
             }
         }
         assert_eq!(end, self.x.len(), "rows cover X");
@@ -126,10 +140,15 @@ impl Run<'_> {
     }
 }
 
+/// Whether a stage's answer is tried on the copy.
+fn tries(stage: usize) -> bool {
+    stage <= 2 || stage == 7
+}
+
 fn run(random: &mut Random, x: &[bool], y: &[bool], settings: Numbers, tally: &mut Tally) {
     let (n, y_bits) = (x.len(), y.len());
     let (x_packed, y_packed) = (packed(x), packed(y));
-    let reply_bytes = 1 + n.div_ceil(8).max(8) + random.below(3);
+    let reply_bytes = reply_bytes(n) + random.below(3);
     let holder = fresh_holder(random, reply_bytes);
     let (rebuilder, mut length) = started(random, settings, y_packed.as_bytes(), y_bits, n);
     let mut run = Run {
@@ -155,16 +174,24 @@ fn run(random: &mut Random, x: &[bool], y: &[bool], settings: Numbers, tally: &m
         if let Some([start, bits, how]) = exact {
             assert_eq!(run.rows().last(), Some(&[start, bits, how]));
             assert_eq!(run.string()[start..start + bits], x[start..start + bits]);
-        } else if field(&before, PHASE) == 1 && field(&before, STAGE) <= 2 {
+            tally.exact_bursts += (how == 6) as usize;
+        } else if field(&before, PHASE) == 1 && tries(field(&before, STAGE)) {
             let unsettled = run.state(ROWS) == field(&before, ROWS);
             tally.unsettled_hashes += (unsettled && question[0] == 1) as usize;
             tally.unsettled_syndromes += (unsettled && question[0] == 2) as usize;
+            tally.unsettled_bursts += (unsettled && question[0] == 4) as usize;
+            // Step 4 follows, never a burst question for this piece again.
+            if unsettled && run.state(PHASE) == 1 {
+                assert!((3..=6).contains(&run.state(STAGE)));
+            }
         }
         tally.calls += 2;
         tally.whole += (field(&before, PHASE) == 2) as usize;
         tally.most_waiting = tally.most_waiting.max(run.state(WAITING));
-        let asked = asked(&run.rebuilder.state).map_or(vec![], |asked| asked.to_vec());
-        assert_eq!(decoded(&run.rebuilder.question[..length]), asked);
+        assert_eq!(
+            decoded(&run.rebuilder.question[..length]),
+            asked(&run.rebuilder.state)
+        );
         if run.state(PHASE) == 1 && length > 0 {
             tally.stages[run.state(STAGE)] += 1;
         }
@@ -200,6 +227,7 @@ fn up_to_3000_bits() {
     assert!(tally.whole > 100);
     assert!(tally.stages.iter().all(|&asked| asked > 100));
     assert!(tally.unsettled_hashes > 100 && tally.unsettled_syndromes > 100);
+    assert!(tally.unsettled_bursts > 100 && tally.exact_bursts > 100);
     assert!(
         tally.wrong_strings > 0,
         "hashes of 8 bits collide now and then"
@@ -288,6 +316,40 @@ fn full_length() {
     }
     println!("{tally:?}");
     assert!(tally.most_waiting >= 10);
+}
+
+/// One run of B bits lost or gained comes out exact with one question, whatever X is; answers of up
+/// to 70 bytes.
+#[test]
+fn single_bursts() {
+    let random = &mut Random::new(14);
+    let mut tally = Tally::default();
+    for kind in REFERENCES {
+        for b in 2..=34 {
+            for n in [b, b + 1, 2 * b + 5, 1_000, MAX_BITS] {
+                let x = reference(random, kind, n);
+                let mut y = x.clone();
+                let at = random.below(n - b + 1);
+                // The longest string can't gain.
+                if n < MAX_BITS && random.bit() {
+                    y.splice(at..at, random_bits(random, b));
+                } else {
+                    y.drain(at..at + b);
+                }
+                let settings = Numbers {
+                    ceiling: 16_384,
+                    ..settings(random)
+                };
+                let before = tally.rows[6];
+                run(random, &x, &y, settings, &mut tally);
+                if b <= 32 {
+                    assert_eq!(tally.rows[6], before + 1, "{kind:?}, {b} of {n} bits");
+                }
+            }
+        }
+    }
+    println!("{tally:?}");
+    assert!(tally.exact_bursts >= 5 * 31 * 5);
 }
 
 /// Lengths around each power of two and each byte border.

@@ -1,6 +1,9 @@
-//! 01's samples, on the library and on the model.
+//! 01's samples, and samples of 02's CR 1, on the library and on the model.
 
 mod common;
+
+use std::fs;
+use std::path::Path;
 
 use common::*;
 use lunetteorris::model::Model;
@@ -123,10 +126,12 @@ fn numbers<E: Ends>() {
     assert_eq!(open(&[]), Err(Refusal::Truncated));
 }
 
-/// m = h = 8: p 63 goes as bits, p 64 gets anchors at 28, 36, 20 and then goes as bits.
+/// m = h = 8: p 63 goes as bits, p 64 gets anchors at 28, 36, 20 and then goes as bits. A copy that
+/// is 2 to 32 bits longer is asked by its columns before that.
 fn questions<E: Ends>() {
-    let ask = |n: usize, answers: &[&[u8]]| -> Vec<Vec<u8>> {
-        let y = [0xff; 9];
+    let ask = |y_bits: usize, n: usize, answers: &[&[u8]]| -> Vec<Vec<u8>> {
+        let y = packed(&vec![true; y_bits]);
+        let y = y.as_bytes();
         let mut state = [0; REBUILDER_BYTES];
         let mut question = [0; QUESTION_BYTES];
         unpack(E::rebuilder_start(
@@ -135,8 +140,8 @@ fn questions<E: Ends>() {
             1,
             1,
             100,
-            &y,
-            72,
+            y,
+            y_bits,
             &mut state,
             &mut question,
         ))
@@ -147,8 +152,8 @@ fn questions<E: Ends>() {
         for message in std::iter::once(&opening[..]).chain(answers.iter().copied()) {
             let result = E::rebuilder_call(
                 &mut state,
-                &y,
-                72,
+                y,
+                y_bits,
                 &mut string,
                 &mut sheet,
                 message,
@@ -159,12 +164,33 @@ fn questions<E: Ends>() {
         }
         asked
     };
-    assert_eq!(ask(63, &[]), [[3, 0, 63]]);
+    assert_eq!(ask(104, 63, &[]), [[3, 0, 63]]);
     let unplaced: &[u8] = &[3, 0];
     assert_eq!(
-        ask(64, &[unplaced, unplaced, unplaced]),
+        ask(104, 64, &[unplaced, unplaced, unplaced]),
         [[3, 28, 8], [3, 36, 8], [3, 20, 8], [3, 0, 64]]
     );
+    // 62 and 66 bits are two apart from 64, 32 and 96 are 32 apart, 31 and 97 are 33 apart.
+    for (y_bits, b) in [(62, 2), (66, 2), (32, 32), (96, 32)] {
+        assert_eq!(ask(y_bits, 64, &[]), [[4, 0, 64, b]]);
+    }
+    for y_bits in [31, 97] {
+        assert_eq!(ask(y_bits, 64, &[]), [[3, 28, 8]]);
+    }
+    // Columns of nine ones: eight ones have syndrome 0, and no take-out has another.
+    let none: &[u8] = &[4, 0, 0, 1, 0, 0, 0, 0, 0, 0];
+    assert_eq!(
+        ask(72, 64, &[none, unplaced, unplaced, unplaced]),
+        [
+            vec![4, 0, 64, 8],
+            vec![3, 28, 8],
+            vec![3, 36, 8],
+            vec![3, 20, 8],
+            vec![3, 0, 64]
+        ]
+    );
+    let none: &[u8] = &[4, 0, 0, 0, 0, 0, 0, 0, 0, 1, 0];
+    assert_eq!(ask(72, 63, &[none]), [vec![4, 0, 63, 9], vec![3, 0, 63]]);
 }
 
 /// p 64, q 66, s 28, k 1: r 21 to 37; of 28 and 30 the smaller, as near as the other.
@@ -309,6 +335,87 @@ fn runs<E: Ends>() {
             "X 1 1 3"
         ]
     );
+    // Source document 000's example of a burst: columns 11001, 01001 and 0100 of X lose one bit each.
+    assert_eq!(
+        demonstration::<E>(settings, "10011100100011", "10100100011"),
+        [
+            "Q 00010801",
+            "A 000e",
+            "Q 04000e03",
+            "A 040201006e",
+            "P 0 14 6",
+            "X 10011100100011 1 5"
+        ]
+    );
+    // No copy of four bits; fewer bits than columns.
+    assert_eq!(
+        demonstration::<E>(settings, "1011", ""),
+        [
+            "Q 00010801",
+            "A 0004",
+            "Q 04000404",
+            "A 0401000101ab01",
+            "P 0 4 6",
+            "X 1011 1 7"
+        ]
+    );
+    assert_eq!(
+        demonstration::<E>(settings, "1", "001011"),
+        [
+            "Q 00010801",
+            "A 0001",
+            "Q 04000105",
+            "A 04010000000021",
+            "P 0 1 6",
+            "X 1 1 7"
+        ]
+    );
+    // A column without a take-out: none, then the bits.
+    assert_eq!(
+        demonstration::<E>(settings, "1000", "000000"),
+        [
+            "Q 00010801",
+            "A 0004",
+            "Q 04000402",
+            "A 04010021",
+            "Q 030004",
+            "A 0380",
+            "P 0 4 5",
+            "X 1000 2 6"
+        ]
+    );
+}
+
+/// The stored runs of the demonstration program that nothing turns down: what tools/runs.py works out
+/// from 01 and 02 by brute force.
+fn stored<E: Ends>() {
+    let folder = Path::new(env!("CARGO_MANIFEST_DIR")).join("../data/runs");
+    let mut compared = 0;
+    for entry in fs::read_dir(folder).expect("data/runs is there") {
+        let input = entry.expect("an entry").path();
+        if input.extension().is_none_or(|end| end != "in") {
+            continue;
+        }
+        let want = fs::read_to_string(input.with_extension("out")).expect("the stored output");
+        if want.starts_with('R') {
+            continue;
+        }
+        let text = fs::read_to_string(&input).expect("the stored input");
+        let lines: Vec<&str> = text.split('\n').collect();
+        let numbers: Vec<u32> = lines[0].split(' ').map(|n| n.parse().unwrap()).collect();
+        let settings = Numbers {
+            m: numbers[0],
+            h: numbers[1],
+            k: numbers[2],
+            key: numbers[3],
+            ceiling: numbers[4],
+        };
+        let got = demonstration::<E>(settings, lines[1], lines[2]);
+        let want: Vec<&str> = want.lines().collect();
+        assert_eq!(got, want, "{}", input.display());
+        compared += 1;
+    }
+    assert!(compared >= 65, "{compared} stored runs");
 }
 
 fn all<E: Ends>() {
@@ -318,6 +425,7 @@ fn all<E: Ends>() {
     questions::<E>();
     places::<E>();
     runs::<E>();
+    stored::<E>();
 }
 
 #[test]

@@ -19,6 +19,7 @@ static void check(int line, uint64_t result, uint64_t value, unsigned refusal) {
 
 static void empty_slices(void) {
     static const uint8_t one[] = {0x80}, open[] = {0, 1, 8, 1}, size_0[] = {0, 0};
+    static const uint8_t burst_1[] = {4, 0, 1, 1}, burst_2[] = {4, 0, 1, 2};
     uint8_t out[1], holder[LO_HOLDER_BYTES], rebuilder[LO_REBUILDER_BYTES];
     uint8_t question[LO_QUESTION_BYTES], reply[2], sheet[LO_SHEET_BYTES(0, 8)];
 
@@ -38,6 +39,10 @@ static void empty_slices(void) {
     GIVES(lo_holder_answer(holder, sizeof holder, NULL, 0, 0, open, sizeof open, reply,
                            sizeof reply),
           sizeof size_0);
+    REFUSES(lo_holder_answer(holder, sizeof holder, NULL, 0, 0, burst_1, sizeof burst_1, NULL, 0),
+            LO_BAD_BURST);
+    REFUSES(lo_holder_answer(holder, sizeof holder, NULL, 0, 0, burst_2, sizeof burst_2, NULL, 0),
+            LO_OUT_OF_RANGE);
 
     REFUSES(lo_rebuilder_start(8, 8, 1, 1, 100, NULL, 0, 0, NULL, 0, question, sizeof question),
             LO_BUFFER_TOO_SHORT);

@@ -34,7 +34,7 @@ fn refusals() {
         let _: &dyn std::error::Error = &refusal;
     }
     assert_eq!(Refusal::from_number(0), None);
-    assert_eq!(Refusal::from_number(10), None);
+    assert_eq!(Refusal::from_number(11), None);
     assert_eq!(unpack(pack(Ok(65_536))), Ok(65_536));
 }
 
@@ -144,6 +144,37 @@ fn demonstration_run() {
         }]
     );
     assert_eq!((rebuilder.answered(), rebuilder.counted()), (2, 4));
+}
+
+/// A run of seven bits lost, then of seven bits gained: one question after the opening, one row.
+#[test]
+fn bursts() {
+    let random = &mut Random::new(54);
+    let long = random_bits(random, 5_000);
+    let short = [&long[..3_000], &long[3_007..]].concat();
+    let (long, short) = (packed(&long), packed(&short));
+    for (x, y) in [(&long, &short), (&short, &long)] {
+        let rebuilder = synchronised(Settings::house(), x, y);
+        assert_eq!(rebuilder.string(), *x);
+        assert_eq!(
+            rebuilder.sheet().collect::<Vec<_>>(),
+            [Row {
+                start: 0,
+                length: x.bits() as u32,
+                how: How::Burst
+            }]
+        );
+        assert_eq!(rebuilder.answered(), 2);
+        assert!(rebuilder.counted() <= 1 + 7 * 2 + 3);
+    }
+    let mut holder = Holder::new(long);
+    holder.answer(&message(&[0, 1, 16, 1])).unwrap();
+    for b in [0, 1, 33, u32::MAX] {
+        let refused = holder.answer(&message(&[4, 0, 100, b]));
+        assert_eq!(refused, Err(Refusal::BadBurst), "B {b}");
+    }
+    let refused = holder.answer(&message(&[4, 0, 5_001, 2]));
+    assert_eq!(refused, Err(Refusal::OutOfRange));
 }
 
 #[test]
@@ -307,8 +338,8 @@ fn finished_runs_that_were_not_saved_so() {
     );
     let other = Rebuilder::resume("1010".parse().unwrap(), saved.clone());
     assert_eq!(other.err(), Some(ResumeError::Refused(Refusal::BadString)));
-    // No finished state has another stage; 7 is none at all.
-    for stage in [1, 6, 7] {
+    // No finished state has another stage; 8 is none at all.
+    for stage in [1, 6, 7, 8] {
         let mut saved = saved.clone();
         set_field(&mut saved.state, STAGE, stage);
         let same = Rebuilder::resume(y.clone(), saved.clone());
@@ -316,7 +347,7 @@ fn finished_runs_that_were_not_saved_so() {
         assert!(Rebuilder::resume("1010".parse().unwrap(), saved).is_err());
     }
     let bad_row = Some(ResumeError::BadRow { index: 0 });
-    for how in [0, 6] {
+    for how in [0, 7] {
         let mut saved = saved.clone();
         set_field(&mut saved.sheet, ROW_HOW, how);
         assert_eq!(Rebuilder::resume(y.clone(), saved).err(), bad_row);
@@ -384,7 +415,7 @@ fn runs_that_were_not_saved_so() {
             Some(ResumeError::Refused(Refusal::OutOfTurn))
         );
         assert_eq!(
-            resumed(|saved| set_field(&mut saved.state, STAGE, 7)),
+            resumed(|saved| set_field(&mut saved.state, STAGE, 8)),
             Some(ResumeError::Refused(Refusal::OutOfTurn))
         );
         assert_eq!(

@@ -14,6 +14,7 @@ use Rattle.ends.specs.Statement.{AfterClaims, HoldersAnswer, LongEnough, OnceEa
 use Rattle.ends.specs.Worlds.{Call, EachBy, Lent, World, WorldOf, afterBy, stepWorld, toHolder, toRebuilder, withHolder, withRebuilder}
 use Rattle.layout.specs.Layout.{holderOf, holderSize, rebuilderOf, rebuilderSize}
 use Rattle.layout.specs.Sheet.{rowsIn}
+use Rattle.cabi.specs.Packing.{valueUnit}
 use Rattle.cabi.specs.Calls.{HolderLeft, HolderMade, RebuilderLeft, StartLeft, holderBytesOutcome, holderMade, rebuilderBytesOutcome, startBytesOutcome}
 
 -- what a host lends: settings; X, Y and their bit counts; string and sheet; the start's question buffer; the bytes for both states
@@ -33,12 +34,12 @@ pub record ByteLent : Type 0 where
 abbrev pub ByteWorld : Type 0
 ByteWorld = WorldOf (List ℕ) (List ℕ) (List ℕ)
 
--- ---- what a number says that a call returned: the low four bits are a refusal's, or 0; the rest is a length
+-- ---- what a number says that a call returned: the lowest byte is a refusal's, or 0; the rest is a length
 abbrev pub joinedBy : (result : ℕ) → List ℕ → List (List ℕ) → List (List ℕ)
-joinedBy result m ms = cond (eqb (result % 16) 0) (ms ++ (m ∷ [])) ms
+joinedBy result m ms = cond (eqb (result % valueUnit) 0) (ms ++ (m ∷ [])) ms
 
 abbrev pub writtenBy : (result : ℕ) → (before buffer : List ℕ) → List ℕ
-writtenBy result before buffer = cond (eqb (result % 16) 0) (take (result / 16) buffer) before
+writtenBy result before buffer = cond (eqb (result % valueUnit) 0) (take (result / valueUnit) buffer) before
 
 -- ---- one call: the right sides of the contracts
 abbrev pub holderDoes : ByteLent → ByteWorld → (message reply : List ℕ) → HolderLeft
@@ -108,7 +109,7 @@ IsBytes (toRebuilder m buffer) = Bytes m
 -- the rebuilder takes only the holder's answer to the question then waiting
 abbrev pub FairOnBytes : ByteLent → ByteWorld → Call → Type 0
 FairOnBytes c b (toHolder m buffer) = Unit {0}
-FairOnBytes c b (toRebuilder m buffer) = rebuilderDoes c b m buffer .result % 16 ≡ 0 → HoldersAnswer (lentOf c) (b .waiting) m
+FairOnBytes c b (toRebuilder m buffer) = rebuilderDoes c b m buffer .result % valueUnit ≡ 0 → HoldersAnswer (lentOf c) (b .waiting) m
 
 abbrev pub AdmittedOnBytes : ByteLent → ByteWorld → Call → Type 0
 AdmittedOnBytes c b k = IsBytes k × LongEnough (lentOf c) k × FairOnBytes c b k
@@ -117,7 +118,7 @@ AdmittedOnBytes c b k = IsBytes k × LongEnough (lentOf c) k × FairOnBytes c b 
 -- both functions that make a state succeed, and the opening question is written
 pub record BeginsOnBytes (c : ByteLent) : Type 0 where
   pub holder : holderMade (c .holder) .result ≡ 0
-  pub result : startDoes c .result ≡ length (questionBytes (AskOpen (c .settings .h) (c .settings .key))) * 16
+  pub result : startDoes c .result ≡ length (questionBytes (AskOpen (c .settings .h) (c .settings .key))) * valueUnit
   pub question : startDoes c .question ≡ atFront (questionBytes (AskOpen (c .settings .h) (c .settings .key))) (c .question)
 
 -- of each call; b is the world in which it came, b′ the one after it
@@ -125,19 +126,19 @@ pub record RebuilderDid (c : ByteLent) (b b′ : ByteWorld) (m buffer : List ℕ
   -- one step of the bytes is a step of ends' world on the states that they hold
   pub step : worldOf b′ ≡ stepWorld (lentOf c) (worldOf b) (toRebuilder m buffer)
   -- "The rebuilder refused no such answer"
-  pub accepts : HoldersAnswer (lentOf c) (b .waiting) m → rebuilderDoes c b m buffer .result % 16 ≡ 0
+  pub accepts : HoldersAnswer (lentOf c) (b .waiting) m → rebuilderDoes c b m buffer .result % valueUnit ≡ 0
   -- "Each answer taken gave the next question that document 01 fixes, or its finish", which has length 0
-  pub gives : rebuilderDoes c b m buffer .result % 16 ≡ 0
-      → (rebuilderDoes c b m buffer .result ≡ length (fixed (lentOf c) (worldOf b′)) * 16) × (rebuilderDoes c b m buffer .question ≡ atFront (fixed (lentOf c) (worldOf b′)) buffer)
+  pub gives : rebuilderDoes c b m buffer .result % valueUnit ≡ 0
+      → (rebuilderDoes c b m buffer .result ≡ length (fixed (lentOf c) (worldOf b′)) * valueUnit) × (rebuilderDoes c b m buffer .question ≡ atFront (fixed (lentOf c) (worldOf b′)) buffer)
   -- a refused call leaves every byte as it was
-  pub unchanged : (rebuilderDoes c b m buffer .result % 16 ≡ 0 → ⊥) → (b′ ≡ b) × (rebuilderDoes c b m buffer .question ≡ buffer)
+  pub unchanged : (rebuilderDoes c b m buffer .result % valueUnit ≡ 0 → ⊥) → (b′ ≡ b) × (rebuilderDoes c b m buffer .question ≡ buffer)
 
 pub record HolderDid (c : ByteLent) (b b′ : ByteWorld) (m buffer : List ℕ) : Type 0 where
   pub step : worldOf b′ ≡ stepWorld (lentOf c) (worldOf b) (toHolder m buffer)
   -- "a holder that had taken each earlier question once and nothing else refused no waiting question": it replies exactly the answer
   pub replies : (a : List ℕ) → m ≡ b .waiting → HoldersAnswer (lentOf c) m a → OnceEach (b .earlier) (b .heard)
-      → (holderDoes c b m buffer .result ≡ length a * 16) × (holderDoes c b m buffer .reply ≡ atFront a buffer)
-  pub unchanged : (holderDoes c b m buffer .result % 16 ≡ 0 → ⊥) → (b′ ≡ b) × (holderDoes c b m buffer .reply ≡ buffer)
+      → (holderDoes c b m buffer .result ≡ length a * valueUnit) × (holderDoes c b m buffer .reply ≡ atFront a buffer)
+  pub unchanged : (holderDoes c b m buffer .result % valueUnit ≡ 0 → ⊥) → (b′ ≡ b) × (holderDoes c b m buffer .reply ≡ buffer)
 
 abbrev pub CallDid : ByteLent → ByteWorld → Call → Type 0
 CallDid c b (toHolder m buffer) = HolderDid c b (stepBytes c b (toHolder m buffer)) m buffer

@@ -1,12 +1,15 @@
--- A call's result as one number: value * 16 + refusal, so that a host tells an answer (refusal 0) from a refusal (1 to 9) by the low four bits.
+-- A call's result as one number: value * 256 + refusal, so that a host tells an answer (refusal 0) from a refusal by the low eight bits.
 use mathlib.Core.Bool.{Bool, true, false}
 use mathlib.Core.Option.{Option, none, some}
 use Prim.Native.Nat.{ℕ, _+_, _*_}
 use Rattle.strings.specs.Results.{Result, refusal, value}
 
+abbrev pub valueUnit : ℕ
+valueUnit = 256
+
 unfoldable pub packed : Result ℕ → ℕ
 packed (refusal number) = number
-packed (value v) = v * 16
+packed (value v) = v * valueUnit
 
 -- a repair that is done is 1, none is 0
 abbrev pub doneNumber : Bool → ℕ

@@ -1,5 +1,5 @@
 // The C interface: what a host calls, on numbers and byte slices. include/lunetteorris.h declares it, docs/LAYOUT.md has the layouts.
-// A result is value * 16 + refusal (specs/Packing.antt).
+// A result is value * 256 + refusal (specs/Packing.antt).
 // A state stands in the first bytes of its slice, which may have more: those are neither read nor written. Bytes that no state has get 3
 // in the calls; too few for a state get 9 in the two functions that make one.
 ghost use mathlib.Core.Path.{_≡_};
@@ -10,7 +10,7 @@ ghost use Rattle.codes.specs.Entries.{syndromeCall, hashCall, repairOutcome};
 ghost use Rattle.strings.specs.Results.{mapped};
 ghost use Rattle.ends.specs.RebuilderCall.{rowsNeeded};
 ghost use Rattle.ends.specs.AnchorSearch.{anchorSearch};
-ghost use Rattle.cabi.specs.Packing.{packed, doneNumber, placeNumber};
+ghost use Rattle.cabi.specs.Packing.{packed, valueUnit, doneNumber, placeNumber};
 ghost use Rattle.cabi.specs.Calls.{holderMade, holderBytesOutcome, startBytesOutcome, rebuilderBytesOutcome};
 ghost use Rattle.layout.specs.Layout.{rebuilderSize, rebuilderBytes};
 ghost use Rattle.layout.specs.Sheet.{rowSize, sheetBytesAfter};
@@ -111,7 +111,7 @@ pub extern "C" fn lo_holder_answer(
         HolderAnswer::Refused(e) => packing::pack_refusal(e),
         HolderAnswer::Replied(size) => {
             layout::write_holder(state, out.state);
-            (size as u64) * 16
+            (size as u64) * packing::VALUE_UNIT
         }
     }
 }
@@ -149,7 +149,7 @@ pub extern "C" fn lo_rebuilder_start(
         StartAnswer::NotBegun(e) => packing::pack_refusal(e),
         StartAnswer::Begun(size) => {
             layout::write_rebuilder(state, out.state);
-            (size as u64) * 16
+            (size as u64) * packing::VALUE_UNIT
         }
     }
 }
@@ -159,13 +159,13 @@ fn keep(state: &mut [u8], sheet: &mut [u8], st: Rebuilder, change: SheetChange, 
     requires { ⌜ rebuilderSize ≤ length (now state) ⌝ }
     requires { ⌜ rowSize * rowsNeeded change ≤ length (now sheet) ⌝ }
     requires { ⌜ size ≤ 16 ⌝ }
-    ensures { λ r. ⌜ r ≡ size * 16 ⌝ }
+    ensures { λ r. ⌜ r ≡ size * valueUnit ⌝ }
     ensures { λ r. ⌜ now (state .exit) ≡ rebuilderBytes st ++ drop rebuilderSize (now (state .entry)) ⌝ }
     ensures { λ r. ⌜ now (sheet .exit) ≡ sheetBytesAfter (now (sheet .entry)) change ⌝ }
 {
     layout::write_rebuilder(state, st);
     layout::apply_change(sheet, change);
-    (size as u64) * 16
+    (size as u64) * packing::VALUE_UNIT
 }
 
 // The rebuilder's call: the next question's length, 0 at the finish.

@@ -1,4 +1,4 @@
-// Results as one number: value * 16 + refusal.
+// Results as one number: value * 256 + refusal.
 ghost use mathlib.Core.Path.{_≡_};
 ghost use mathlib.Core.List.{List};
 ghost use Prim.Native.Nat.{ℕ, _≤_};
@@ -12,6 +12,9 @@ use codes::RepairAnswer;
 use ends::AnchorAnswer;
 use strings::Refusal;
 
+// What a value counts in a result (specs/Packing.antt: valueUnit).
+pub const VALUE_UNIT: u64 = 256;
+
 // A refusal.
 pub fn pack_refusal(e: Refusal) -> u64
     ensures { λ r. ⌜ r ≡ packed (refusal (refusalNumber e)) ⌝ }
@@ -24,7 +27,7 @@ pub fn pack_number(a: NumberAnswer) -> u64
     ensures { λ r. ⌜ r ≡ packed (saidValue a) ⌝ }
 {
     match a {
-        NumberAnswer::Value(v) => (v as u64) * 16,
+        NumberAnswer::Value(v) => (v as u64) * VALUE_UNIT,
         NumberAnswer::Refused(e) => pack_refusal(e),
     }
 }
@@ -34,7 +37,7 @@ pub fn pack_repair(a: RepairAnswer) -> u64
     ensures { λ r. ⌜ ((out : List ℕ) → r ≡ packed (mapped doneNumber (saidRepair a out .answer))) ⌝ }
 {
     match a {
-        RepairAnswer::Done => 16,
+        RepairAnswer::Done => VALUE_UNIT,
         RepairAnswer::Nothing => 0,
         RepairAnswer::Refused(e) => pack_refusal(e),
     }
@@ -42,11 +45,11 @@ pub fn pack_repair(a: RepairAnswer) -> u64
 
 // A place, none or a refusal. A place that the search gave is at most 65,536, so that the result fits; this is what it requires.
 pub fn pack_place(a: AnchorAnswer) -> u64
-    requires { ⌜ packed (mapped placeNumber (saidAnchor a)) ≤ 1048592 ⌝ }
+    requires { ⌜ packed (mapped placeNumber (saidAnchor a)) ≤ 16777472 ⌝ }
     ensures { λ r. ⌜ r ≡ packed (mapped placeNumber (saidAnchor a)) ⌝ }
 {
     match a {
-        AnchorAnswer::Placed(r) => ((r + 1) as u64) * 16,
+        AnchorAnswer::Placed(r) => ((r + 1) as u64) * VALUE_UNIT,
         AnchorAnswer::NoPlace => 0,
         AnchorAnswer::Refused(e) => pack_refusal(e),
     }

@@ -1,4 +1,5 @@
 -- What internal functions give and require: the terms of their contracts.
 pub mod Place
 pub mod Edits
+pub mod Weaving
 pub mod HashForms

@@ -1,9 +1,13 @@
 -- Laws of the definitions, for proofs.
 pub mod SyndromeLaws
 pub mod RepairLaws
+pub mod ColumnLaws
 pub mod PlaceLaws
 pub mod EditLaws
 pub mod HashLaws
+pub mod ColumnReadLaws
+pub mod WeavingLaws
+pub mod ColumnEditLaws
 pub mod TrialLaws
 pub mod EntryLaws
 pub mod Collision

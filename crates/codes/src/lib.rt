@@ -1,13 +1,20 @@
 // Codes and hash: the second of the four layers. The syndrome of a string, one bit put in or taken out so that the syndrome is a given
-// number, and the keyed hash. `entries` has what a host calls, on any bytes and numbers; the other modules work on a range of a packed
-// string and require that it lies in the string. Of these the layers above call `syndrome_of`, `hash_of` and the trials.
+// number, and the keyed hash; both for each column of a string, where a run of bits was lost or gained. `entries` has what a host calls, on
+// any bytes and numbers; the other modules work on a range of a packed string and require that it lies in the string. Of these the layers
+// above call `syndrome_of`, `syndrome_of_column`, `hash_of` and the trials.
+mod columns;
 mod edits;
 mod entries;
 mod places;
 mod rows;
 mod sums;
 mod trials;
+mod weaving;
 
+pub use columns::column_length;
+pub use columns::is_column_count;
+pub use columns::syndrome_of_column;
+pub use columns::try_run;
 pub use entries::NumberAnswer;
 pub use entries::RepairAnswer;
 pub use entries::hash;

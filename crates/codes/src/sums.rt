@@ -15,7 +15,7 @@ pub struct Sums {
 // One bit more, in front of the others: all of their places are one later, so that the ones are added to the sum. There is no branch,
 // because the bits of a string are hard to foretell. The bounds here and below only keep the additions in range: a string has at most
 // MAX_BITS ones, and their sum is below 2^32.
-fn sum_bit(b: bool, ones: usize, sum: usize) -> Sums
+pub fn sum_bit(b: bool, ones: usize, sum: usize) -> Sums
     requires { ⌜ ones ≤ 100000 ⌝ }
     requires { ⌜ sum ≤ 100000000000 ⌝ }
     ensures { λ r. ⌜ Grows (b ∷ []) ones sum (r .ones) (r .sum) ⌝ }

@@ -6,16 +6,16 @@ use mathlib.Core.Logic.{_⊎_}
 use Prim.Native.Nat.{ℕ, _+_, _-_, _≤_, _<_}
 use lib.ListN.{length, getD, drop, replicate}
 use lib.Dec.{ltb, leb}
-use Rattle.codes.specs.Repair.{Deletion}
+use Rattle.codes.specs.Columns.{RunLost, syndromes}
 use Rattle.codes.specs.Syndrome.{syndrome}
 use Rattle.ends.specs.Segments.{Segment, dropped, settled, span, waiting, hashOf}
-use Rattle.ends.specs.Anchors.{part}
+use Rattle.ends.specs.Anchors.{distance, part}
 use Rattle.ends.specs.Runs.{Run, opening, working, whole, question, answerFor, continued, piecesOf, sheetOf, string}
 use Rattle.ends.specs.RebuilderCall.{noRow}
 use Rattle.ends.specs.declared.Row.{Row}
 use Rattle.strings.specs.declared.settings.Settings.{Settings}
 use Rattle.ends.specs.declared.How.{How}
-use Rattle.ends.specs.declared.How.the-variants.{ByAnchor, ByHash, ByPutIn, ByTakeOut, ByBits}
+use Rattle.ends.specs.declared.How.the-variants.{ByAnchor, ByHash, ByPutIn, ByTakeOut, ByBits, ByBurst}
 
 -- ---- sums over pieces and over rows
 abbrev pub total : (Segment → ℕ) → List Segment → ℕ
@@ -37,22 +37,23 @@ abbrev pub covers : ℕ → Row → ℕ
 covers i r = cond (leb (r .start) i && ltb i (r .start + r .len)) 1 0
 
 -- ---- what is claimed of a settled piece; x is the reference's
-abbrev pub Agrees : Settings → How → (x b : List Bool) → Type 0
-Agrees S ByHash x b = hashOf S b ≡ hashOf S x
-Agrees S ByPutIn x b = (syndrome b ≡ syndrome x) × (hashOf S b ≡ hashOf S x)
-Agrees S ByTakeOut x b = (syndrome b ≡ syndrome x) × (hashOf S b ≡ hashOf S x)
-Agrees S ByAnchor x b = b ≡ x
-Agrees S ByBits x b = b ≡ x
+abbrev pub Agrees : Settings → How → (x copy b : List Bool) → Type 0
+Agrees S ByHash x ys b = hashOf S b ≡ hashOf S x
+Agrees S ByPutIn x ys b = (syndrome b ≡ syndrome x) × (hashOf S b ≡ hashOf S x)
+Agrees S ByTakeOut x ys b = (syndrome b ≡ syndrome x) × (hashOf S b ≡ hashOf S x)
+Agrees S ByAnchor x ys b = b ≡ x
+Agrees S ByBits x ys b = b ≡ x
+Agrees S ByBurst x ys b = (syndromes (distance (length x) (length ys)) b ≡ syndromes (distance (length x) (length ys)) x) × (hashOf S b ≡ hashOf S x)
 
--- the copy is the reference's with nothing changed, one bit lost or one bit added
+-- the copy is the reference's with nothing changed, or with one run of bits lost or gained: one bit (01), or a burst (02, CR 1)
 pub data Near (x y : List Bool) : Type 0 where
   unchanged : y ≡ x → Near x y
-  oneLost : Deletion y x → Near x y
-  oneAdded : Deletion x y → Near x y
+  runLost : (B : ℕ) → 1 ≤ B → RunLost y x B → Near x y
+  runGained : (B : ℕ) → 1 ≤ B → RunLost x y B → Near x y
 
 pub record Settled (S : Settings) (x : List Bool) (w : How) (ys b : List Bool) : Type 0 where
   pub len : length b ≡ length x
-  pub agrees : Agrees S w x b
+  pub agrees : Agrees S w x ys b
   pub exact : Near x ys → b ≡ x
 
 -- ---- places of pieces and bits

@@ -9,9 +9,9 @@ use Rattle.strings.specs.StringRule.{stringRule}
 use Rattle.strings.specs.Results.{Result, value, unless, andThen}
 use Rattle.strings.specs.declared.Refusal.the-variants.{BadString, OutOfTurn, BufferTooShort}
 use Rattle.messages.specs.declared.Kind.{Kind}
-use Rattle.messages.specs.declared.Kind.the-variants.{Open, Hash, Syndrome, Bits}
+use Rattle.messages.specs.declared.Kind.the-variants.{Open, Hash, Syndrome, Bits, Burst}
 use Rattle.messages.specs.declared.Question.{Question}
-use Rattle.messages.specs.declared.Question.the-variants.{AskOpen, AskHash, AskSyndrome, AskBits}
+use Rattle.messages.specs.declared.Question.the-variants.{AskOpen, AskHash, AskSyndrome, AskBits, AskBurst}
 use Rattle.messages.specs.Kinds.{kindAt}
 use Rattle.messages.specs.Questions.{fieldsAt}
 use Rattle.messages.specs.Answers.{answerBytes}
@@ -41,6 +41,7 @@ inTurn opened Open = not opened
 inTurn opened Hash = opened
 inTurn opened Syndrome = opened
 inTurn opened Bits = opened
+inTurn opened Burst = opened
 
 -- the state after an answer
 abbrev pub afterAnswer : Holder → ℕ → Question → Holder
@@ -48,6 +49,7 @@ afterAnswer st bits (AskOpen h key) = record { opened = true; bits = bits; h = h
 afterAnswer st bits (AskHash x p) = record { opened = st .opened; bits = st .bits; h = st .h; key = st .key; answers = st .answers + 1 }
 afterAnswer st bits (AskSyndrome x p) = record { opened = st .opened; bits = st .bits; h = st .h; key = st .key; answers = st .answers + 1 }
 afterAnswer st bits (AskBits x p) = record { opened = st .opened; bits = st .bits; h = st .h; key = st .key; answers = st .answers + 1 }
+afterAnswer st bits (AskBurst x p b) = record { opened = st .opened; bits = st .bits; h = st .h; key = st .key; answers = st .answers + 1 }
 
 -- a message for which there is capacity
 unfoldable pub sends : ℕ → Holder → List ℕ → Result Reply

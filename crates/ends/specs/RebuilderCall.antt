@@ -13,7 +13,7 @@ use Rattle.strings.specs.Refusals.{refusalNumber}
 use Rattle.strings.specs.declared.Refusal.the-variants.{BadSetting, BadString, OutOfTurn, BufferTooShort}
 use Rattle.messages.specs.declared.Question.{Question}
 use Rattle.messages.specs.declared.Question.the-variants.{AskOpen}
-use Rattle.messages.specs.Questions.{questionKind, questionLength, questionBytes}
+use Rattle.messages.specs.Questions.{questionKind, questionLength, questionBurst, questionBytes}
 use Rattle.messages.specs.Answers.{Answer, readAnswer}
 use Rattle.strings.specs.declared.settings.Settings.{Settings}
 use Rattle.ends.specs.declared.How.the-variants.{ByAnchor, ByBits}
@@ -222,7 +222,7 @@ given st y msg capacities a =
 -- finished: out of turn
 abbrev pub awaits : Rebuilder → (y msg : List ℕ) → Capacities → Option Question → Result Taken
 awaits st y msg capacities none = refusal (refusalNumber OutOfTurn)
-awaits st y msg capacities (some q) = andThen (readAnswer (questionKind q) (questionLength q) (st .settings .h) msg) (given st y msg capacities)
+awaits st y msg capacities (some q) = andThen (readAnswer (questionKind q) (questionLength q) (questionBurst q) (st .settings .h) msg) (given st y msg capacities)
 
 -- with the bytes y of Y, their bit count and a message: 2; 3; then the message; 9
 unfoldable pub rebuilderCall : Rebuilder → (y : List ℕ) (bits : ℕ) (msg : List ℕ) → Capacities → Result Taken

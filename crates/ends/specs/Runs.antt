@@ -7,10 +7,11 @@ use lib.ListN.{length}
 use lib.Dec.{ltb}
 use Rattle.codes.specs.Syndrome.{syndrome}
 use Rattle.codes.specs.Hash.{hash}
+use Rattle.codes.specs.Columns.{syndromes}
 use Rattle.messages.specs.declared.Question.{Question}
-use Rattle.messages.specs.declared.Question.the-variants.{AskOpen, AskHash, AskSyndrome, AskBits}
-use Rattle.messages.specs.Answers.{Answer, sizeAnswer, hashAnswer, syndromeAnswer, bitsAnswer, answerBytes, readAnswer}
-use Rattle.messages.specs.Questions.{questionKind, questionLength}
+use Rattle.messages.specs.declared.Question.the-variants.{AskOpen, AskHash, AskSyndrome, AskBits, AskBurst}
+use Rattle.messages.specs.Answers.{Answer, sizeAnswer, hashAnswer, syndromeAnswer, bitsAnswer, burstAnswer, answerBytes, readAnswer, longestNumbers}
+use Rattle.messages.specs.Questions.{questionKind, questionLength, questionBurst}
 use Rattle.strings.specs.Results.{Result, refusal, value}
 use Rattle.strings.specs.Refusals.{refusalNumber}
 use Rattle.strings.specs.declared.Refusal.the-variants.{OutOfTurn}
@@ -26,6 +27,7 @@ answer h key X (AskOpen h′ key′) = sizeAnswer (length X)
 answer h key X (AskHash x p) = hashAnswer (hash h key (part X x p))
 answer h key X (AskSyndrome x p) = syndromeAnswer (syndrome (part X x p)) (hash h key (part X x p))
 answer h key X (AskBits x p) = bitsAnswer (part X x p)
+answer h key X (AskBurst x p b) = burstAnswer (syndromes b (part X x p)) (hash h key (part X x p))
 
 -- the holder's answer under the rebuilder's own opening
 abbrev pub honestAnswer : Settings → List Bool → Question → Answer
@@ -39,9 +41,9 @@ sizeOf a = length (answerBytes a)
 abbrev pub full : ℕ → ℕ
 full n = 1 + (n + 7) / 8
 
--- the longest answer where X has n bits: a syndrome and a hash, or all bits
+-- the longest answer where X has n bits: numbers, or all bits
 abbrev pub longestAnswer : ℕ → ℕ
-longestAnswer n = max 9 (full n)
+longestAnswer n = max longestNumbers (full n)
 
 -- before the opening's answer; with n, the counted bytes, the pieces and the rows, finished where no piece waits; the same, but bits 0, n asked for
 pub data Run : Type 0 where
@@ -68,7 +70,7 @@ advance S Y (whole n c segs rows) a = working n (c + sizeOf a) (settled ByBits Y
 -- a message, read as the answer to the question that waits; after the finish there is none
 abbrev pub answerFor : Settings → Option Question → List ℕ → Result Answer
 answerFor S none m = refusal (refusalNumber OutOfTurn)
-answerFor S (some q) m = readAnswer (questionKind q) (questionLength q) (S .h) m
+answerFor S (some q) m = readAnswer (questionKind q) (questionLength q) (questionBurst q) (S .h) m
 
 -- after one message more; what is no answer makes nothing
 abbrev pub continued : Settings → List Bool → Run → Result Answer → Run

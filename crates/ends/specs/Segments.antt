@@ -6,27 +6,29 @@ use Prim.Native.Nat.{ℕ, zero, suc, _+_, _-_, _*_, _/_}
 use lib.ListN.{length, take, drop}
 use lib.Dec.{ltb, eqb}
 use Rattle.codes.specs.Repair.{putIn, takeOut}
+use Rattle.codes.specs.Columns.{columnLimits, repairRun}
 use Rattle.codes.specs.Hash.{hash}
 use Rattle.messages.specs.declared.Question.{Question}
-use Rattle.messages.specs.declared.Question.the-variants.{AskHash, AskSyndrome, AskBits}
-use Rattle.messages.specs.Answers.{Answer, sizeAnswer, hashAnswer, syndromeAnswer, bitsAnswer}
+use Rattle.messages.specs.declared.Question.the-variants.{AskHash, AskSyndrome, AskBits, AskBurst}
+use Rattle.messages.specs.Answers.{Answer, sizeAnswer, hashAnswer, syndromeAnswer, bitsAnswer, burstAnswer}
 use Rattle.strings.specs.declared.settings.Settings.{Settings}
 use Rattle.ends.specs.declared.How.{How}
-use Rattle.ends.specs.declared.How.the-variants.{ByHash, ByPutIn, ByTakeOut, ByAnchor, ByBits}
+use Rattle.ends.specs.declared.How.the-variants.{ByHash, ByPutIn, ByTakeOut, ByAnchor, ByBits, ByBurst}
 use Rattle.ends.specs.declared.Stage.{Stage}
-use Rattle.ends.specs.declared.Stage.the-variants.{Hashing, PuttingIn, TakingOut, Anchor, AllBits}
+use Rattle.ends.specs.declared.Stage.the-variants.{Hashing, PuttingIn, TakingOut, Anchor, AllBits, Columns}
 use Rattle.ends.specs.declared.Attempt.{Attempt}
 use Rattle.ends.specs.declared.Attempt.the-variants.{First, Second, Third}
 use Rattle.ends.specs.declared.Row.{Row}
-use Rattle.ends.specs.Anchors.{part, place}
+use Rattle.ends.specs.Anchors.{distance, part, place}
 
--- a row's how: 1 hash, 2 put-in, 3 take-out, 4 anchor, 5 bits
+-- a row's how: 1 hash, 2 put-in, 3 take-out, 4 anchor, 5 bits; 6 burst (02, CR 1)
 abbrev pub howNumber : How → ℕ
 howNumber ByHash = 1
 howNumber ByPutIn = 2
 howNumber ByTakeOut = 3
 howNumber ByAnchor = 4
 howNumber ByBits = 5
+howNumber ByBurst = 6
 
 -- the hash under the settings
 unfoldable pub hashOf : Settings → List Bool → ℕ
@@ -38,24 +40,35 @@ theSize (sizeAnswer n) = n
 theSize (hashAnswer v) = 0
 theSize (syndromeAnswer a v) = 0
 theSize (bitsAnswer l) = 0
+theSize (burstAnswer ss v) = 0
 
 abbrev pub theHash : Answer → ℕ
 theHash (sizeAnswer n) = 0
 theHash (hashAnswer v) = v
 theHash (syndromeAnswer a v) = v
 theHash (bitsAnswer l) = 0
+theHash (burstAnswer ss v) = v
 
 abbrev pub theSyndrome : Answer → ℕ
 theSyndrome (sizeAnswer n) = 0
 theSyndrome (hashAnswer v) = 0
 theSyndrome (syndromeAnswer a v) = a
 theSyndrome (bitsAnswer l) = 0
+theSyndrome (burstAnswer ss v) = 0
+
+abbrev pub theSyndromes : Answer → List ℕ
+theSyndromes (sizeAnswer n) = []
+theSyndromes (hashAnswer v) = []
+theSyndromes (syndromeAnswer a v) = []
+theSyndromes (bitsAnswer l) = []
+theSyndromes (burstAnswer ss v) = ss
 
 abbrev pub theBits : Answer → List Bool
 theBits (sizeAnswer n) = []
 theBits (hashAnswer v) = []
 theBits (syndromeAnswer a v) = []
 theBits (bitsAnswer l) = l
+theBits (burstAnswer ss v) = []
 
 -- a piece of X with its copy, its range of Y: dropped, since it has no bits (step 1); waiting, of p bits, at a stage (Stage: what is asked of it); or settled, with its bits
 pub data Segment : Type 0 where
@@ -85,9 +98,17 @@ tooSmall S p q = ltb p (4 * (S .m + S .h)) || ltb q (S .m)
 unfoldable pub laterStage : Settings → ℕ → ℕ → Stage
 laterStage S p q = cond (tooSmall S p q) AllBits (Anchor First)
 
--- the step at which a piece begins
+-- 02, CR 1: "A piece whose lengths differ by B, 2 to 32"
+unfoldable pub isBurst : ℕ → ℕ → Bool
+isBurst p q = columnLimits (distance p q)
+
+-- the step at which a piece begins; CR 1's comes in place of step 4
 unfoldable pub firstStage : Settings → ℕ → ℕ → Stage
-firstStage S p q = cond (eqb q p) Hashing (cond (eqb (q + 1) p) PuttingIn (cond (eqb q (p + 1)) TakingOut (laterStage S p q)))
+firstStage S p q =
+    cond (eqb q p) Hashing (
+    cond (eqb (q + 1) p) PuttingIn (
+    cond (eqb q (p + 1)) TakingOut (
+    cond (isBurst p q) Columns (laterStage S p q))))
 
 -- "while none can be placed": the stage after an anchor that isn't; after three, all bits
 abbrev pub afterAnchor : Attempt → Stage
@@ -100,6 +121,7 @@ abbrev pub nextStage : Settings → (p q : ℕ) → Stage → Stage
 nextStage S p q Hashing = laterStage S p q
 nextStage S p q PuttingIn = laterStage S p q
 nextStage S p q TakingOut = laterStage S p q
+nextStage S p q Columns = laterStage S p q
 nextStage S p q (Anchor i) = afterAnchor i
 nextStage S p q AllBits = AllBits
 
@@ -134,6 +156,7 @@ unfoldable pub effect : Settings → Answer → ℕ → List Bool → Stage → 
 effect S a p ys Hashing = trial S (theHash a) ByHash ys (retry S p ys)
 effect S a p ys PuttingIn = trialOf S (theHash a) ByPutIn (putIn (theSyndrome a) ys) (retry S p ys)
 effect S a p ys TakingOut = trialOf S (theHash a) ByTakeOut (takeOut (theSyndrome a) ys) (retry S p ys)
+effect S a p ys Columns = trialOf S (theHash a) ByBurst (repairRun (distance p (length ys)) p (theSyndromes a) ys) (retry S p ys)
 effect S a p ys (Anchor i) = placed (offset (S .m) p i) (theBits a) (afterAnchor i) (place (S .m) (S .k) p (offset (S .m) p i) ys (theBits a))
 effect S a p ys AllBits = settles ByBits (theBits a)
 
@@ -148,20 +171,21 @@ abbrev pub work : Settings → Answer → ℕ → List Bool → Stage → List S
 work S a p ys t = made S p ys (effect S a p ys t)
 
 -- ---- the leftmost waiting piece
--- the question for a piece that starts at x of X
-abbrev pub asks : Settings → ℕ → ℕ → Stage → Question
-asks S x p Hashing = AskHash x p
-asks S x p PuttingIn = AskSyndrome x p
-asks S x p TakingOut = AskSyndrome x p
-asks S x p (Anchor i) = AskBits (x + offset (S .m) p i) (S .m)
-asks S x p AllBits = AskBits x p
+-- the question for a piece that starts at x of X, with p bits and a copy of q
+abbrev pub asks : Settings → (x p q : ℕ) → Stage → Question
+asks S x p q Hashing = AskHash x p
+asks S x p q PuttingIn = AskSyndrome x p
+asks S x p q TakingOut = AskSyndrome x p
+asks S x p q Columns = AskBurst x p (distance p q)
+asks S x p q (Anchor i) = AskBits (x + offset (S .m) p i) (S .m)
+asks S x p q AllBits = AskBits x p
 
 -- the question for the leftmost waiting piece, of pieces that start at x; none if none waits
 abbrev pub ask : Settings → ℕ → List Segment → Option Question
 ask S x [] = none
 ask S x (dropped ys ∷ r) = ask S x r
 ask S x (settled w ys b ∷ r) = ask S (x + length b) r
-ask S x (waiting p ys t ∷ r) = some (asks S x p t)
+ask S x (waiting p ys t ∷ r) = some (asks S x p (length ys) t)
 
 -- the pieces after the answer to it
 abbrev pub step : Settings → Answer → List Segment → List Segment

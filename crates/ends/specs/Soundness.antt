@@ -13,9 +13,9 @@ use Rattle.ends.specs.declared.Attempt.the-variants.{First, Second, Thir
 use Rattle.ends.specs.declared.Phase.{Phase}
 use Rattle.ends.specs.declared.Phase.the-variants.{AtOpening, AtPieces, AtWhole}
 use Rattle.ends.specs.declared.Stage.{Stage}
-use Rattle.ends.specs.declared.Stage.the-variants.{Hashing, PuttingIn, TakingOut, Anchor, AllBits}
+use Rattle.ends.specs.declared.Stage.the-variants.{Hashing, PuttingIn, TakingOut, Anchor, AllBits, Columns}
 use Rattle.strings.specs.SettingLimits.{between, hashLimits, withinLimits}
-use Rattle.ends.specs.Segments.{tooSmall}
+use Rattle.ends.specs.Segments.{isBurst, tooSmall}
 use Rattle.ends.specs.Runs.{full, longestAnswer}
 use Rattle.ends.specs.States.{noPiece, held, top}
 
@@ -69,6 +69,7 @@ unfoldable pub stageFits : Settings → (p q : ℕ) → Stage → Bool
 stageFits S p q Hashing = eqb q p
 stageFits S p q PuttingIn = eqb (q + 1) p
 stageFits S p q TakingOut = eqb q (p + 1)
+stageFits S p q Columns = isBurst p q
 stageFits S p q (Anchor i) = not (tooSmall S p q)
 stageFits S p q AllBits = true
 
@@ -77,6 +78,7 @@ abbrev pub isHashing : Stage → Bool
 isHashing Hashing = true
 isHashing PuttingIn = false
 isHashing TakingOut = false
+isHashing Columns = false
 isHashing (Anchor i) = false
 isHashing AllBits = false
 
@@ -100,6 +102,7 @@ abbrev pub asksBefore : Stage → ℕ
 asksBefore Hashing = 0
 asksBefore PuttingIn = 0
 asksBefore TakingOut = 0
+asksBefore Columns = 0
 asksBefore (Anchor First) = 1
 asksBefore (Anchor Second) = 2
 asksBefore (Anchor Third) = 3

@@ -67,7 +67,7 @@ splitAt st s r = restaged (pushed (pushed (popped st) (rightPiece (st .settings 
 -- by what is awaited; none after the finish
 abbrev pub plannedAt : Phase → Rebuilder → Option Question
 plannedAt AtOpening st = some (AskOpen (st .settings .h) (st .settings .key))
-plannedAt AtPieces st = cond (eqb (st .waiting) 0) none (some (asks (st .settings) (top st .x) (top st .p) (st .stage)))
+plannedAt AtPieces st = cond (eqb (st .waiting) 0) none (some (asks (st .settings) (top st .x) (top st .p) (top st .q) (st .stage)))
 plannedAt AtWhole st = some (AskBits 0 (st .n))
 
 unfoldable pub planned : Rebuilder → Option Question

@@ -1,14 +1,15 @@
 // The holder: its call, which takes one question and gives the answer.
 ghost use mathlib.Core.Path.{_≡_};
 ghost use mathlib.Core.Bool.{true};
-ghost use Prim.Native.Nat.{_<_};
-ghost use lib.ListN.{length};
-ghost use Rattle.strings.specs.Bits.{range};
+ghost use Prim.Native.Nat.{_≤_, _<_};
+ghost use lib.ListN.{length, take};
+ghost use Rattle.strings.specs.Bits.{range, Part};
+ghost use Rattle.codes.specs.Columns.{syndromes};
 ghost use Rattle.messages.specs.Answers.{sizeAnswer, bitsAnswer};
 ghost use Rattle.ends.specs.HolderCall.{freshHolder, sameBitCount, inTurn, answersTo, ofKind};
 ghost use Rattle.ends.specs.Soundness.{mostAnswers};
 ghost use Rattle.ends.specs.HolderOutcome.{saidHolder, leavesHolder, holderOutcome};
-ghost use Rattle.ends.specs.code.HolderParts.{refused, written, openedWith, oneMore, hashReply, syndromeReply, replyOutcome, Answers, Able, Ready};
+ghost use Rattle.ends.specs.code.HolderParts.{refused, written, openedWith, oneMore, hashReply, syndromeReply, burstReply, replyOutcome, Answers, Able, Ready};
 use crate::Holder;
 use crate::MOST_ANSWERS;
 use crate::sound::holder_is_sound;
@@ -134,6 +135,34 @@ fn answer_bits(st: Holder, x: &[u8], start: u32, len: u32, reply: &mut [u8]) -> 
     reply_written(st, next, w)
 }
 
+// The syndromes of the b columns of a range, at the front of the array.
+fn column_syndromes(x: &[u8], start: usize, len: usize, b: usize) -> [u32; 32]
+    requires { ⌜ Part (now x) start len ⌝ }
+    requires { ⌜ (2 ≤ b) × (b ≤ 32) ⌝ }
+    ensures { λ r. ⌜ take b r ≡ syndromes b (range (now (x .entry)) start len) ⌝ }
+{
+    let mut a = [0u32; 32];
+    let mut j: usize = 0;
+    while j < b {
+        a[j] = codes::syndrome_of_column(x, start, len, b, j) as u32;
+        j += 1;
+    }
+    a
+}
+
+// The answer to a burst question: the syndromes of the columns, then the hash.
+fn answer_burst(st: Holder, x: &[u8], start: u32, len: u32, b: u32, reply: &mut [u8]) -> HolderOut
+    requires { ⌜ Answers st (now x) start len ⌝ }
+    requires { ⌜ (2 ≤ b) × (b ≤ 32) ⌝ }
+    ensures { λ r. ⌜ saidHolder r (now (reply .exit)) ≡ replyOutcome st (oneMore st) (burstReply st b (range (now (x .entry)) start len)) (now (reply .entry)) ⌝ }
+{
+    let next = one_more(st);
+    let a = column_syndromes(x, start as usize, len as usize, b as usize);
+    let v = codes::hash_of(x, start as usize, len as usize, st.key, st.h);
+    let w = messages::write_burst(a, b, v, reply);
+    reply_written(st, next, w)
+}
+
 // The answer to a question that was read, for X of n bits.
 fn answer_question(st: Holder, x: &[u8], n: u32, q: Question, reply: &mut [u8]) -> HolderOut
     requires { ⌜ Ready st (now x) n q ⌝ }
@@ -145,6 +174,7 @@ fn answer_question(st: Holder, x: &[u8], n: u32, q: Question, reply: &mut [u8]) 
         Question::AskHash(start, len) => answer_hash(st, x, start, len, reply),
         Question::AskSyndrome(start, len) => answer_syndrome(st, x, start, len, reply),
         Question::AskBits(start, len) => answer_bits(st, x, start, len, reply),
+        Question::AskBurst(start, len, b) => answer_burst(st, x, start, len, b, reply),
     }
 }
 
@@ -157,6 +187,7 @@ fn is_in_turn(opened: bool, kind: Kind) -> bool
         Kind::Hash => opened,
         Kind::Syndrome => opened,
         Kind::Bits => opened,
+        Kind::Burst => opened,
     }
 }
 

@@ -27,13 +27,18 @@ pub use sheet::rebuilder_call_on_sheet;
 // The most answers that a holder gives (specs/Soundness.antt: mostAnswers).
 const MOST_ANSWERS: u32 = 1000000;
 
-// How a row's piece was settled; specs/Segments.antt has the numbers, 1 to 5 in this order.
+// The most bytes of an answer of numbers (messages specs/Answers.antt: longestNumbers).
+const LONGEST_NUMBERS: u32 = 102;
+
+// How a row's piece was settled; specs/Segments.antt has the numbers, 1 to 6 in this order.
 pub enum How {
     ByHash,
     ByPutIn,
     ByTakeOut,
     ByAnchor,
     ByBits,
+    // Its columns were repaired (02, CR 1).
+    ByBurst,
 }
 
 // A row of the sheet: start and length in X, and the number of how.
@@ -74,6 +79,8 @@ pub enum Stage {
     TakingOut,
     Anchor(Attempt),
     AllBits,
+    // The syndromes of its columns, and its hash, where the copy is 2 to 32 bits shorter or longer (02, CR 1).
+    Columns,
 }
 
 // What is awaited: the opening's answer; one for the leftmost waiting piece, or nothing if none waits; bits 0, n.

@@ -6,7 +6,7 @@ ghost use lib.Dec.{leb};
 ghost use Prim.Native.Nat.{ℕ, _+_, _*_, _/_, _≤_, _<_};
 ghost use lib.ListN.{length};
 ghost use Rattle.strings.specs.Bits.{bytesFor};
-ghost use Rattle.messages.specs.Questions.{questionKind, questionLength};
+ghost use Rattle.messages.specs.Questions.{questionKind, questionLength, questionBurst};
 ghost use Rattle.ends.specs.States.{planned};
 ghost use Rattle.ends.specs.Soundness.{sound};
 ghost use Rattle.ends.specs.RebuilderOutcome.{saidRebuilder, rebuilderOutcome, capacities, noRebuilder, saidStart, startOutcome};
@@ -76,15 +76,16 @@ fn take(
     y: &[u8],
     msg: &[u8],
     len: u32,
+    b: u32,
     read: AnswerRead,
     string: &mut [u8],
     question: &mut [u8],
 ) -> RebuilderOut
-    requires { ⌜ Due st (now msg) len read ⌝ }
+    requires { ⌜ Due st (now msg) len b read ⌝ }
     requires { ⌜ ((rows : ℕ) × (enoughForAnswer st (capacities (length (now string)) rows (length (now question))) read ≡ true)) ⌝ }
     requires { ⌜ st .ybits ≤ 8 * length (now y) ⌝ }
     ensures { λ r. ⌜ saidRebuilder r (now (string .exit)) (now (question .exit))
-        ≡ heardOutcome st (now (y .entry)) (now (msg .entry)) len read (now (string .entry)) (now (question .entry)) ⌝ }
+        ≡ heardOutcome st (now (y .entry)) (now (msg .entry)) len b read (now (string .entry)) (now (question .entry)) ⌝ }
 {
     match read {
         AnswerRead::NoAnswer(e) => refuse(st, e),
@@ -103,6 +104,15 @@ fn take(
             st,
             y,
             &msg[at..],
+            msg.len() as u32,
+            string,
+            question,
+        ),
+        AnswerRead::IsBurst(v) => steps::take_burst(
+            st,
+            y,
+            messages::burst_syndromes(msg, b),
+            v,
             msg.len() as u32,
             string,
             question,
@@ -139,6 +149,7 @@ fn is_enough_for_answer(
         AnswerRead::IsHash(v) => is_enough(st.settings.m, st.n, string, rows, question),
         AnswerRead::IsSyndrome(a, v) => is_enough(st.settings.m, st.n, string, rows, question),
         AnswerRead::IsBits(at) => is_enough(st.settings.m, st.n, string, rows, question),
+        AnswerRead::IsBurst(v) => is_enough(st.settings.m, st.n, string, rows, question),
     }
 }
 
@@ -150,6 +161,7 @@ fn question_length(q: Question) -> u32
         Question::AskHash(start, len) => len,
         Question::AskSyndrome(start, len) => len,
         Question::AskBits(start, len) => len,
+        Question::AskBurst(start, len, b) => len,
     }
 }
 
@@ -161,6 +173,19 @@ fn question_kind(q: Question) -> Kind
         Question::AskHash(start, len) => Kind::Hash,
         Question::AskSyndrome(start, len) => Kind::Syndrome,
         Question::AskBits(start, len) => Kind::Bits,
+        Question::AskBurst(start, len, b) => Kind::Burst,
+    }
+}
+
+fn question_burst(q: Question) -> u32
+    ensures { λ r. ⌜ r ≡ questionBurst q ⌝ }
+{
+    match q {
+        Question::AskOpen(h, key) => 0,
+        Question::AskHash(start, len) => 0,
+        Question::AskSyndrome(start, len) => 0,
+        Question::AskBits(start, len) => 0,
+        Question::AskBurst(start, len, b) => b,
     }
 }
 
@@ -180,11 +205,12 @@ fn hear(
 {
     let len = question_length(q);
     let kind = question_kind(q);
-    let read = messages::read_answer(kind, len, st.settings.h, msg);
+    let b = question_burst(q);
+    let read = messages::read_answer(kind, len, b, st.settings.h, msg);
     if !is_enough_for_answer(st, read, string.len(), rows, question.len()) {
         return refuse(st, Refusal::BufferTooShort);
     }
-    take(st, y, msg, len, read, string, question)
+    take(st, y, msg, len, b, read, string, question)
 }
 
 // The rebuilder's call on Y, its bit count, a message, the number of lent rows, and the buffers for the string and the question.

@@ -10,11 +10,13 @@ ghost use Rattle.ends.specs.code.StateCode.{Usable};
 ghost use Rattle.ends.specs.code.SoundCode.{Sized, Work, Sum};
 use crate::Attempt;
 use crate::Holder;
+use crate::LONGEST_NUMBERS;
 use crate::MOST_ANSWERS;
 use crate::Phase;
 use crate::Piece;
 use crate::Rebuilder;
 use crate::Stage;
+use crate::state::is_burst;
 use crate::state::too_small;
 use crate::state::top;
 use crate::state::wide;
@@ -156,6 +158,7 @@ fn asks_before(t: Stage) -> u32
             Attempt::Third => 3,
         },
         Stage::AllBits => 4,
+        Stage::Columns => 0,
     }
 }
 
@@ -197,6 +200,7 @@ fn stage_fits(s: Settings, p: u32, q: u32, t: Stage) -> bool
         Stage::TakingOut => b == a + 1,
         Stage::Anchor(i) => !too_small(s, p, q),
         Stage::AllBits => true,
+        Stage::Columns => is_burst(p, q),
     }
 }
 
@@ -209,6 +213,7 @@ fn is_hashing(t: Stage) -> bool
         Stage::TakingOut => false,
         Stage::Anchor(i) => false,
         Stage::AllBits => false,
+        Stage::Columns => false,
     }
 }
 
@@ -247,8 +252,8 @@ fn answer_bound(n: u32) -> u32
     ensures { λ r. ⌜ r ≡ longestAnswer n ⌝ }
 {
     let f = full_size(n);
-    if f < 9 {
-        return 9;
+    if f < LONGEST_NUMBERS {
+        return LONGEST_NUMBERS;
     }
     f
 }

@@ -3,7 +3,8 @@
 ghost use mathlib.Core.Path.{_≡_};
 ghost use mathlib.Core.Bool.{true, cond, _&&_};
 ghost use Prim.Native.Nat.{_+_, _-_, _*_, _/_, _≤_, _<_};
-ghost use Rattle.ends.specs.Segments.{tooSmall, laterStage, firstStage, nextStage, afterAnchor, offset, asks};
+ghost use Rattle.ends.specs.Anchors.{distance};
+ghost use Rattle.ends.specs.Segments.{tooSmall, isBurst, laterStage, firstStage, nextStage, afterAnchor, offset, asks};
 ghost use Rattle.ends.specs.States.{stacked, top, popped, pushed, restaged, retried, splitAt, planned};
 ghost use Rattle.ends.specs.RebuilderCall.{counting, tallied, openingStep, wholeState, freshRebuilder};
 ghost use Rattle.ends.specs.declared.Phase.the-variants.{AtPieces, AtWhole};
@@ -133,6 +134,23 @@ fn later_stage(s: Settings, p: u32, q: u32) -> Stage
     Stage::Anchor(Attempt::First)
 }
 
+// By how many bits the lengths p and q differ.
+pub fn length_distance(p: u32, q: u32) -> u32
+    ensures { λ r. ⌜ r ≡ distance p q ⌝ }
+{
+    if p < q {
+        return q - p;
+    }
+    p - q
+}
+
+// Whether they differ by 2 to 32 (02, CR 1).
+pub fn is_burst(p: u32, q: u32) -> bool
+    ensures { λ r. ⌜ r ≡ isBurst p q ⌝ }
+{
+    codes::is_column_count(length_distance(p, q))
+}
+
 // The stage at which a piece begins.
 fn first_stage(s: Settings, p: u32, q: u32) -> Stage
     requires { ⌜ Usable s ⌝ }
@@ -148,6 +166,9 @@ fn first_stage(s: Settings, p: u32, q: u32) -> Stage
     }
     if b == a + 1 {
         return Stage::TakingOut;
+    }
+    if is_burst(p, q) {
+        return Stage::Columns;
     }
     later_stage(s, p, q)
 }
@@ -174,6 +195,7 @@ fn next_stage(s: Settings, p: u32, q: u32, t: Stage) -> Stage
         Stage::TakingOut => later_stage(s, p, q),
         Stage::Anchor(i) => after_anchor(i),
         Stage::AllBits => Stage::AllBits,
+        Stage::Columns => later_stage(s, p, q),
     }
 }
 
@@ -320,7 +342,7 @@ pub fn fresh_rebuilder(settings: Settings, bits: u32) -> Rebuilder
 // The question for the piece t at its stage.
 fn ask_for(s: Settings, t: Piece, stage: Stage) -> Question
     requires { ⌜ Asks (s .m) t stage ⌝ }
-    ensures { λ r. ⌜ r ≡ asks s (t .x) (t .p) stage ⌝ }
+    ensures { λ r. ⌜ r ≡ asks s (t .x) (t .p) (t .q) stage ⌝ }
 {
     match stage {
         Stage::Hashing => Question::AskHash(t.x, t.p),
@@ -328,6 +350,7 @@ fn ask_for(s: Settings, t: Piece, stage: Stage) -> Question
         Stage::TakingOut => Question::AskSyndrome(t.x, t.p),
         Stage::Anchor(i) => Question::AskBits(t.x + anchor_offset(s.m, t.p, i), s.m),
         Stage::AllBits => Question::AskBits(t.x, t.p),
+        Stage::Columns => Question::AskBurst(t.x, t.p, length_distance(t.p, t.q)),
     }
 }
 

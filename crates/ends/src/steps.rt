@@ -4,9 +4,9 @@ ghost use mathlib.Core.Path.{_≡_};
 ghost use mathlib.Core.Bool.{true};
 ghost use mathlib.Core.List.{List};
 ghost use Prim.Native.Nat.{ℕ, _+_, _*_, _≤_, _<_};
-ghost use lib.ListN.{length};
+ghost use lib.ListN.{length, take};
 ghost use Rattle.strings.specs.Bits.{range, bytesFor, maxBits, atFront};
-ghost use Rattle.messages.specs.Answers.{sizeAnswer, hashAnswer, syndromeAnswer, bitsAnswer};
+ghost use Rattle.messages.specs.Answers.{sizeAnswer, hashAnswer, syndromeAnswer, bitsAnswer, burstAnswer};
 ghost use Rattle.ends.specs.Segments.{howNumber, row};
 ghost use Rattle.ends.specs.States.{top, popped, restaged, retried, splitAt, planned};
 ghost use Rattle.ends.specs.Soundness.{sound};
@@ -17,7 +17,7 @@ ghost use Rattle.ends.specs.declared.Stage.the-variants.{Hashing, Anchor
 ghost use Rattle.ends.specs.RebuilderCall.{tallied, writtenQuestion};
 ghost use Rattle.ends.specs.RebuilderOutcome.{saidRebuilder};
 ghost use Rattle.ends.specs.code.StateCode.{planOf};
-ghost use Rattle.ends.specs.code.RebuilderParts.{nextAnswer, OutIs, Acting, Splitting, Lending, Retriable, RepairDue, AsksBits, bitsOfStage, repairHow, stepOutcome, WholeDue, Opening, BitsDue, dueLength};
+ghost use Rattle.ends.specs.code.RebuilderParts.{nextAnswer, OutIs, Acting, Splitting, Lending, Retriable, RepairDue, BurstDue, burstOf, AsksBits, bitsOfStage, repairHow, stepOutcome, WholeDue, Opening, BitsDue, dueLength};
 use crate::Attempt;
 use crate::How;
 use crate::Phase;
@@ -43,6 +43,7 @@ fn how_number(how: How) -> u32
         How::ByTakeOut => 3,
         How::ByAnchor => 4,
         How::ByBits => 5,
+        How::ByBurst => 6,
     }
 }
 
@@ -207,6 +208,42 @@ pub fn take_syndrome(
     leave_waiting(st, size, question)
 }
 
+// The syndromes a of the columns, at the front of the array, and the hash v of a piece whose copy is 2 to 32 bits shorter or longer.
+pub fn take_burst(
+    st: Rebuilder,
+    y: &[u8],
+    a: [u32; 32],
+    v: u32,
+    size: u32,
+    string: &mut [u8],
+    question: &mut [u8],
+) -> RebuilderOut
+    requires { ⌜ Acting st size (length (now question)) ⌝ }
+    requires { ⌜ Lending st (now y) (now string) ⌝ }
+    requires { ⌜ BurstDue st ⌝ }
+    ensures { λ r. ⌜ saidRebuilder r (now (string .exit)) (now (question .exit))
+        ≡ stepOutcome st (now (y .entry)) size (burstAnswer (take (burstOf st) a) v) (now (string .entry)) (now (question .entry)) ⌝ }
+{
+    let t = state::top(st);
+    let b = state::length_distance(t.p, t.q);
+    if codes::try_run(
+        y,
+        t.y as usize,
+        t.q as usize,
+        t.p as usize,
+        b as usize,
+        a,
+        v,
+        st.settings.key,
+        st.settings.h,
+        string,
+        t.x as usize,
+    ) {
+        return settle(st, size, How::ByBurst, question);
+    }
+    leave_waiting(st, size, question)
+}
+
 // All bits of a piece.
 fn take_piece(
     st: Rebuilder,
@@ -327,6 +364,7 @@ fn take_piece_bits(
         Stage::Hashing => give(RebuilderAnswer::Finished, st, SheetChange::NoRow),
         Stage::PuttingIn => give(RebuilderAnswer::Finished, st, SheetChange::NoRow),
         Stage::TakingOut => give(RebuilderAnswer::Finished, st, SheetChange::NoRow),
+        Stage::Columns => give(RebuilderAnswer::Finished, st, SheetChange::NoRow),
     }
 }
 

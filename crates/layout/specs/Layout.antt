@@ -11,7 +11,7 @@ use Rattle.ends.specs.declared.Phase.the-variants.{AtOpening, AtPieces, AtWhole
 use Rattle.ends.specs.declared.Piece.{Piece}
 use Rattle.ends.specs.declared.Rebuilder.{Rebuilder}
 use Rattle.ends.specs.declared.Stage.{Stage}
-use Rattle.ends.specs.declared.Stage.the-variants.{Hashing, PuttingIn, TakingOut, Anchor, AllBits}
+use Rattle.ends.specs.declared.Stage.the-variants.{Hashing, PuttingIn, TakingOut, Anchor, AllBits, Columns}
 use Rattle.ends.specs.States.{noPiece}
 use Rattle.layout.specs.Bytes32.{bytesOf, wordAt}
 
@@ -44,6 +44,7 @@ stageNumber (Anchor First) = 3
 stageNumber (Anchor Second) = 4
 stageNumber (Anchor Third) = 5
 stageNumber AllBits = 6
+stageNumber Columns = 7
 
 unfoldable pub stageOf : ℕ → Stage
 stageOf v =
@@ -52,7 +53,8 @@ stageOf v =
     cond (eqb v 2) TakingOut (
     cond (eqb v 3) (Anchor First) (
     cond (eqb v 4) (Anchor Second) (
-    cond (eqb v 5) (Anchor Third) AllBits)))))
+    cond (eqb v 5) (Anchor Third) (
+    cond (eqb v 6) AllBits Columns))))))
 
 -- ---- the holder's state: 20 bytes
 abbrev pub holderSize : ℕ
@@ -117,4 +119,4 @@ rebuilderOf s = fieldsOf s (piecesAt s 52 32)
 
 -- bytes that some state can have at their front: enough of them, and cases' numbers
 unfoldable pub isRebuilder : List ℕ → Bool
-isRebuilder s = leb rebuilderSize (length s) && (leb (wordAt s 24) 2 && leb (wordAt s 44) 6)
+isRebuilder s = leb rebuilderSize (length s) && (leb (wordAt s 24) 2 && leb (wordAt s 44) 7)

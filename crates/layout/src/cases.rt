@@ -68,6 +68,7 @@ pub fn stage_number(t: Stage) -> u32
         Stage::TakingOut => 2,
         Stage::Anchor(i) => anchor_number(i),
         Stage::AllBits => 6,
+        Stage::Columns => 7,
     }
 }
 
@@ -93,5 +94,8 @@ pub fn stage_of(v: u32) -> Stage
     if v == 5 {
         return Stage::Anchor(Attempt::Third);
     }
-    Stage::AllBits
+    if v == 6 {
+        return Stage::AllBits;
+    }
+    Stage::Columns
 }

@@ -103,7 +103,7 @@ pub fn holds_rebuilder(s: &[u8]) -> bool
     if read_u32(s, 24) > 2 {
         return false;
     }
-    read_u32(s, 44) <= 6
+    read_u32(s, 44) <= 7
 }
 
 // A rebuilder's state but for its pieces.

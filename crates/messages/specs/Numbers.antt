@@ -1,6 +1,6 @@
 -- 01, "Messages": every number is below 2^32, in groups of seven bits, lowest first, top bit set on all but the last byte, shortest form.
 use mathlib.Core.Bool.{cond}
-use mathlib.Core.List.{List, [], _∷_}
+use mathlib.Core.List.{List, [], _∷_, _++_}
 use Prim.Native.Nat.{ℕ, zero, suc, _+_, _-_, _*_, _/_, _%_}
 use lib.ListN.{length, getD}
 use lib.Dec.{ltb, leb}
@@ -56,6 +56,19 @@ threeAt s at =
     andThen (twoAt s at) (λ (a, b, next).
     andThen (numberAt s next) (λ (c, end).
     value (a, b, c, end)))
+
+-- the bytes of numbers, one behind the other
+unfoldable pub allNumbers : List ℕ → List ℕ
+allNumbers [] = []
+allNumbers (v ∷ l) = number v ++ allNumbers l
+
+-- k numbers, one behind the other, and the position behind them
+unfoldable pub numbersAt : ℕ → List ℕ → ℕ → Result (List ℕ × ℕ)
+numbersAt zero s at = value ([], at)
+numbersAt (suc k) s at =
+    andThen (numberAt s at) (λ (a, next).
+    andThen (numbersAt k s next) (λ (l, end).
+    value (a ∷ l, end)))
 
 -- what the code's answers say
 abbrev pub saidNumber : NumberRead → Result (ℕ × ℕ)

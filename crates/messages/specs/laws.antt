@@ -5,3 +5,4 @@ pub mod QuestionLaws
 pub mod AnswerLaws
 pub mod WritingLaws
 pub mod RefusalLaws
+pub mod BurstSamples

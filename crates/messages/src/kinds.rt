@@ -17,6 +17,7 @@ pub fn kind_number(k: Kind) -> u32
         Kind::Hash => 1,
         Kind::Syndrome => 2,
         Kind::Bits => 3,
+        Kind::Burst => 4,
     }
 }
 
@@ -35,6 +36,9 @@ fn kind_of(v: u32, at: usize) -> KindRead
     }
     if v == kind_number(Kind::Bits) {
         return KindRead::Known(Kind::Bits, at);
+    }
+    if v == kind_number(Kind::Burst) {
+        return KindRead::Known(Kind::Burst, at);
     }
     KindRead::NoKind(Refusal::BadKind)
 }

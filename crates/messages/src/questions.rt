@@ -1,6 +1,6 @@
 // Questions: written by a rebuilder, read by a holder.
 ghost use mathlib.Core.Path.{_≡_};
-ghost use Rattle.messages.specs.Questions.{questionBytes, asking, openingIn, openingAt, rangeIn, rangeAt, fieldsAt, saidQuestion};
+ghost use Rattle.messages.specs.Questions.{questionBytes, asking, openingIn, openingAt, rangeIn, rangeAt, burstIn, burstRangeAt, fieldsAt, saidQuestion};
 ghost use Rattle.messages.specs.declared.Question.the-variants.{AskOpen};
 ghost use Rattle.messages.specs.Writing.{saidWrite, putFront};
 use crate::Kind;
@@ -14,10 +14,11 @@ use crate::reading::ThreeRead;
 use crate::reading::TwoRead;
 use crate::reading::three_numbers;
 use crate::reading::two_numbers;
+use crate::writing::write_three;
 use crate::writing::write_two;
 use strings::Refusal;
 
-// The question of a kind with its two fields.
+// The question of a kind with its two fields. A burst has three, and is not asked for here.
 fn ask(kind: Kind, a: u32, b: u32) -> Question
     ensures { λ r. ⌜ r ≡ asking kind a b ⌝ }
 {
@@ -26,6 +27,7 @@ fn ask(kind: Kind, a: u32, b: u32) -> Question
         Kind::Hash => Question::AskHash(a, b),
         Kind::Syndrome => Question::AskSyndrome(a, b),
         Kind::Bits => Question::AskBits(a, b),
+        Kind::Burst => Question::AskBurst(a, b, 0),
     }
 }
 
@@ -87,6 +89,38 @@ fn read_range(kind: Kind, s: &[u8], at: usize, n: u32) -> QuestionRead
     }
 }
 
+// A burst question to a holder of n bits whose fields were read up to position `end` of a message of that length.
+fn burst_in(length: usize, n: u32, start: u32, len: u32, b: u32, end: usize) -> QuestionRead
+    ensures { λ r. ⌜ saidQuestion r ≡ burstIn length n start len b end ⌝ }
+{
+    if end < length {
+        return QuestionRead::NoQuestion(Refusal::TrailingBytes);
+    }
+    if !codes::is_column_count(b) {
+        return QuestionRead::NoQuestion(Refusal::BadBurst);
+    }
+    if len < 1 {
+        return QuestionRead::NoQuestion(Refusal::OutOfRange);
+    }
+    if n < start {
+        return QuestionRead::NoQuestion(Refusal::OutOfRange);
+    }
+    if n - start < len {
+        return QuestionRead::NoQuestion(Refusal::OutOfRange);
+    }
+    QuestionRead::Asked(Question::AskBurst(start, len, b))
+}
+
+// The fields of a burst question from position `at` on: start, length, B.
+fn read_burst(s: &[u8], at: usize, n: u32) -> QuestionRead
+    ensures { λ r. ⌜ saidQuestion r ≡ burstRangeAt (now (s .entry)) at n ⌝ }
+{
+    match three_numbers(s, at) {
+        ThreeRead::NoThree(e) => QuestionRead::NoQuestion(e),
+        ThreeRead::Three(start, len, b, end) => burst_in(s.len(), n, start, len, b, end),
+    }
+}
+
 // The rest of a question of a known kind, from position `at` on, to a holder of n bits.
 pub fn read_fields(kind: Kind, s: &[u8], at: usize, n: u32) -> QuestionRead
     ensures { λ r. ⌜ saidQuestion r ≡ fieldsAt kind (now (s .entry)) at n ⌝ }
@@ -96,6 +130,7 @@ pub fn read_fields(kind: Kind, s: &[u8], at: usize, n: u32) -> QuestionRead
         Kind::Hash => read_range(kind, s, at, n),
         Kind::Syndrome => read_range(kind, s, at, n),
         Kind::Bits => read_range(kind, s, at, n),
+        Kind::Burst => read_burst(s, at, n),
     }
 }
 
@@ -123,5 +158,6 @@ pub fn write_question(q: Question, buf: &mut [u8]) -> WriteResult
         Question::AskHash(start, len) => write_two(Kind::Hash, start, len, buf),
         Question::AskSyndrome(start, len) => write_two(Kind::Syndrome, start, len, buf),
         Question::AskBits(start, len) => write_two(Kind::Bits, start, len, buf),
+        Question::AskBurst(start, len, b) => write_three(Kind::Burst, start, len, b, buf),
     }
 }

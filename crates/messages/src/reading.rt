@@ -3,8 +3,9 @@
 // `three_numbers`, each of which reads through one reader; the last two move it on from number to number, in `three_readings`. Their
 // parameters are plain, so that the functions above need no proof by hand.
 ghost use mathlib.Core.Path.{_≡_};
-ghost use Rattle.messages.specs.Numbers.{numberAt, saidNumber, twoAt, saidTwo, threeAt, saidThree};
-ghost use Rattle.messages.specs.code.Reading.{behindNumber, twoOf, threeOf, OneBehindTheOther};
+ghost use Prim.Native.Nat.{_≤_};
+ghost use Rattle.messages.specs.Numbers.{numberAt, saidNumber, twoAt, saidTwo, threeAt, saidThree, numbersAt};
+ghost use Rattle.messages.specs.code.Reading.{behindNumber, twoOf, threeOf, OneBehindTheOther, saidMany};
 use crate::numbers::NumberRead;
 use crate::numbers::read_number;
 use strings::Refusal;
@@ -48,7 +49,7 @@ pub fn read_next<'a>(r: Reader<'a>) -> NumberRead
 }
 
 // How far a reader has got that stood at `at` and read `n`.
-fn behind(n: NumberRead, at: usize) -> usize
+pub fn behind(n: NumberRead, at: usize) -> usize
     ensures { λ r. ⌜ r ≡ behindNumber n at ⌝ }
 {
     match n {
@@ -138,4 +139,39 @@ pub fn three_numbers(s: &[u8], at: usize) -> ThreeRead
     let second = r.second;
     let third = r.third;
     three_of(first, second, third)
+}
+
+// The k numbers from position `at` on, one behind the other: they are the first k of `numbers` if `last` is a number, and then this says the position
+// behind them; `last` is why not if one of them is none.
+pub struct ManyRead {
+    pub numbers: [u32; 32],
+    pub last: NumberRead,
+}
+
+pub fn many_numbers(s: &[u8], at: usize, k: usize) -> ManyRead
+    requires { ⌜ k ≤ 32 ⌝ }
+    ensures { λ r. ⌜ saidMany k (r .numbers) (r .last) ≡ numbersAt k (now (s .entry)) at ⌝ }
+{
+    let mut list = [0u32; 32];
+    let mut end = at;
+    let mut i: usize = 0;
+    while i < k {
+        match next_number(s, end) {
+            NumberRead::NoNumber(e) => {
+                return ManyRead {
+                    numbers: list,
+                    last: NumberRead::NoNumber(e),
+                };
+            }
+            NumberRead::Value(v, next) => {
+                list[i] = v;
+                end = next;
+                i += 1;
+            }
+        }
+    }
+    ManyRead {
+        numbers: list,
+        last: NumberRead::Value(0, end),
+    }
 }

@@ -283,16 +283,16 @@ fn begin(y: &[u8], bits: usize) -> Rebuilder {
 
 // A piece of 63 bits goes as bits; one of 64 gets anchors at 28, 36 and 20 first: no byte of ones stands in zeros.
 fn print_pieces() {
-    let zeros = [0u8; 10];
-    let first = begin(&zeros, 80);
-    print(b"questions for 63 bits, copy of 80 zeros:");
-    tell(first, &zeros, 80, b"\x00\x3f");
-    print(b"\nquestions for 64 ones, copy of 80 zeros:");
-    let one = tell(first, &zeros, 80, b"\x00\x40");
-    let two = tell(one, &zeros, 80, b"\x03\xff");
-    let three = tell(two, &zeros, 80, b"\x03\xff");
-    let four = tell(three, &zeros, 80, b"\x03\xff");
-    tell(four, &zeros, 80, b"\x03\xff\xff\xff\xff\xff\xff\xff\xff");
+    let zeros = [0u8; 13];
+    let first = begin(&zeros, 104);
+    print(b"questions for 63 bits, copy of 104 zeros:");
+    tell(first, &zeros, 104, b"\x00\x3f");
+    print(b"\nquestions for 64 ones, copy of 104 zeros:");
+    let one = tell(first, &zeros, 104, b"\x00\x40");
+    let two = tell(one, &zeros, 104, b"\x03\xff");
+    let three = tell(two, &zeros, 104, b"\x03\xff");
+    let four = tell(three, &zeros, 104, b"\x03\xff");
+    tell(four, &zeros, 104, b"\x03\xff\xff\xff\xff\xff\xff\xff\xff");
     print(b"\n");
 }
 

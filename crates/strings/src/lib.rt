@@ -24,7 +24,7 @@ pub const MAX_BITS: usize = 65536;
 // The same, as the states have numbers.
 pub const MOST_BITS: u32 = MAX_BITS as u32;
 
-// Why a call is turned down (01, "Why a call is turned down"). specs/Refusals.antt has the numbers, 1 to 9 in this order.
+// Why a call is turned down (01, "Why a call is turned down"). specs/Refusals.antt has the numbers, 1 to 10 in this order.
 pub enum Refusal {
     // A setting handed in is outside its limits.
     BadSetting,
@@ -44,6 +44,8 @@ pub enum Refusal {
     OutOfRange,
     // A lent buffer or sheet is too short.
     BufferTooShort,
+    // The number B of a burst question is outside 2 to 32.
+    BadBurst,
 }
 
 // The number of a refusal.
@@ -60,6 +62,7 @@ pub fn refusal_number(e: Refusal) -> u32
         Refusal::TrailingBytes => 7,
         Refusal::OutOfRange => 8,
         Refusal::BufferTooShort => 9,
+        Refusal::BadBurst => 10,
     }
 }
 

@@ -10,12 +10,21 @@ use std::time::Instant;
 
 use lunetteorris::model::Model;
 use lunetteorris::{
-    sheet_rows, unpack, BitString, Ends, Library, Settings, HOLDER_BYTES, QUESTION_BYTES,
-    REBUILDER_BYTES, REPLY_BYTES, ROW_BYTES,
+    pack, sheet_rows, unpack, BitString, Ends, Library, Settings, HOLDER_BYTES, MAX_BITS,
+    QUESTION_BYTES, REBUILDER_BYTES, REPLY_BYTES, ROW_BYTES,
 };
 
-const LENGTHS: [usize; 3] = [4_096, 16_384, 65_536];
-const EDITS: [usize; 4] = [0, 1, 33, 131];
+const LENGTHS: [usize; 3] = [4_096, 16_384, MAX_BITS];
+/// What the copies of whole runs have lost and gained.
+const CHANGES: [Change; 5] = [
+    Change::Edits(0),
+    Change::Edits(1),
+    Change::Edits(33),
+    Change::Edits(131),
+    Change::Bursts(33),
+];
+/// Bits of the one run that a copy has lost or gained.
+const RUNS: [usize; 4] = [1, 7, 16, 32];
 /// Samples of each side, and the least time of one.
 const SAMPLES: usize = 60;
 const SAMPLE_SECONDS: f64 = 0.002;
@@ -47,6 +56,28 @@ fn main() {
     }
     println!();
     println!(
+        "{:<24}{:>8}{:>12}{:>12}{:>8}{:>14}",
+        "one run of bits", "bits", "Rattle", "Rust", "ratio", "answer bytes"
+    );
+    for run in RUNS {
+        for lost in [true, false] {
+            let one = OneRun::new(run, lost);
+            let change = if lost { "lost" } else { "gained" };
+            for (end, (library, model)) in [
+                ("holder", one.time_holder()),
+                ("rebuilder", one.time_rebuilder()),
+            ] {
+                let ratio = library / model;
+                worst = worst.max(ratio);
+                let name = format!("{end}, {run} {change}");
+                let bits = one.x.bits();
+                let bytes = one.answer.len();
+                println!("{name:<24}{bits:>8}{library:>12.2}{model:>12.2}{ratio:>8.2}{bytes:>14}");
+            }
+        }
+    }
+    println!();
+    println!(
         "{:<24}{:>8}{:>12}{:>12}{:>8}{:>11}{:>16}{:>14}{:>12}",
         "whole run",
         "bits",
@@ -58,14 +89,14 @@ fn main() {
         "answer bytes",
         "bits asked"
     );
-    for edits in EDITS {
+    for change in CHANGES {
+        let name = change.name();
         let runs = LENGTHS.map(|bits| {
-            let mut run = Run::new(bits, edits);
+            let mut run = Run::new(bits, change);
             let traffic = run.check();
             let (library, model) = run.time();
             let ratio = library / model;
             worst = worst.max(ratio);
-            let name = format!("{edits} edits");
             println!(
                 "{name:<24}{bits:>8}{library:>12.2}{model:>12.2}{ratio:>8.2}\
                  {:>11}{:>16}{:>14}{:>12}{}",
@@ -82,11 +113,7 @@ fn main() {
             (library, traffic.bits_asked as f64)
         });
         let [_, short, long] = runs;
-        growth.push((
-            format!("{edits} edits"),
-            long.0 / short.0,
-            Some(long.1 / short.1),
-        ));
+        growth.push((name, long.0 / short.0, Some(long.1 / short.1)));
     }
     println!();
     println!("Growth of Rattle's time from 16,384 to 65,536 bits; 4.0 is linear. A run goes over");
@@ -215,8 +242,8 @@ fn time_repair(s: &BitString, x: &BitString) -> (f64, f64) {
     let a = unpack(Model::syndrome(x.as_bytes(), n)).expect("legal") as usize;
     let mut outs = [vec![0; n.div_ceil(8)], vec![0; n.div_ceil(8)]];
     let [out, out_model] = &mut outs;
-    assert_eq!(call::<Library>(s, n, a, out), 16);
-    assert_eq!(call::<Model>(s, n, a, out_model), 16);
+    assert_eq!(call::<Library>(s, n, a, out), pack(Ok(1)));
+    assert_eq!(call::<Model>(s, n, a, out_model), pack(Ok(1)));
     assert_eq!((&out[..], &out_model[..]), (x.as_bytes(), x.as_bytes()));
     compare(
         || _ = call::<Library>(s, n, a, out),
@@ -277,7 +304,130 @@ fn time_anchor_zero(bits: usize) -> (f64, f64) {
     time_anchor(&packed(&vec![false; bits]), &packed(&anchor))
 }
 
+// One run of bits lost or gained: the holder's answer and the rebuilder's call
+
+/// The states after the opening, the question that waits, and its answer.
+struct OneRun {
+    x: BitString,
+    y: BitString,
+    holder: [u8; HOLDER_BYTES],
+    rebuilder: [u8; REBUILDER_BYTES],
+    question: Vec<u8>,
+    answer: Vec<u8>,
+}
+
+impl OneRun {
+    /// The longer string has 65,536 bits; the run stands in its middle.
+    fn new(run: usize, lost: bool) -> OneRun {
+        let long = random_bits(MAX_BITS, &mut Random(8 + run as u64));
+        let mut short = long.clone();
+        let at = (MAX_BITS - run) / 2;
+        short.drain(at..at + run);
+        let (long, short) = (packed(&long), packed(&short));
+        let (x, y) = if lost { (long, short) } else { (short, long) };
+        let mut buffers = Buffers::new(x.bits());
+        let mut messages = Vec::new();
+        let mut states = Vec::new();
+        run_with::<Model>(&x, &y, &mut buffers, |states_before, question, answer| {
+            states.push(states_before);
+            messages.push((question.to_vec(), answer.to_vec()));
+        });
+        assert_eq!(messages.len(), 2, "the opening, then one question");
+        let (holder, rebuilder) = states[1];
+        let (question, answer) = messages.pop().expect("two messages");
+        OneRun {
+            x,
+            y,
+            holder,
+            rebuilder,
+            question,
+            answer,
+        }
+    }
+
+    fn time_holder(&self) -> (f64, f64) {
+        fn call<E: Ends>(one: &OneRun, reply: &mut [u8]) -> u64 {
+            let mut state = one.holder;
+            black_box(E::holder_answer(
+                &mut state,
+                black_box(one.x.as_bytes()),
+                one.x.bits(),
+                &one.question,
+                reply,
+            ))
+        }
+        let mut replies = [[0; REPLY_BYTES]; 2];
+        let [reply, reply_model] = &mut replies;
+        let length = self.answer.len();
+        assert_eq!(call::<Library>(self, reply), pack(Ok(length as u64)));
+        assert_eq!(call::<Model>(self, reply_model), pack(Ok(length as u64)));
+        assert_eq!(reply[..length], self.answer);
+        assert_eq!(reply_model[..length], self.answer);
+        compare(
+            || _ = call::<Library>(self, reply),
+            || _ = call::<Model>(self, reply_model),
+        )
+    }
+
+    fn time_rebuilder(&self) -> (f64, f64) {
+        fn call<E: Ends>(one: &OneRun, buffers: &mut Buffers) -> u64 {
+            buffers.rebuilder = one.rebuilder;
+            black_box(E::rebuilder_call(
+                &mut buffers.rebuilder,
+                black_box(one.y.as_bytes()),
+                one.y.bits(),
+                &mut buffers.string,
+                &mut buffers.sheet,
+                &one.answer,
+                &mut buffers.question,
+            ))
+        }
+        let mut library = Buffers::new(self.x.bits());
+        let mut model = library.clone();
+        assert_eq!(call::<Library>(self, &mut library), 0, "finished");
+        assert_eq!(call::<Model>(self, &mut model), 0, "finished");
+        assert!(library == model);
+        assert_eq!(library.string, self.x.as_bytes());
+        compare(
+            || _ = call::<Library>(self, &mut library),
+            || _ = call::<Model>(self, &mut model),
+        )
+    }
+}
+
 // Whole runs
+
+/// What a copy has lost and gained, in turns, losses first.
+#[derive(Clone, Copy)]
+enum Change {
+    /// So many bits.
+    Edits(usize),
+    /// So many runs of 2 to 32 bits.
+    Bursts(usize),
+}
+
+impl Change {
+    fn name(self) -> String {
+        match self {
+            Change::Edits(edits) => format!("{edits} edits"),
+            Change::Bursts(bursts) => format!("{bursts} bursts"),
+        }
+    }
+
+    fn count(self) -> usize {
+        match self {
+            Change::Edits(count) | Change::Bursts(count) => count,
+        }
+    }
+
+    /// Bits of the next loss or gain.
+    fn length(self, random: &mut Random) -> usize {
+        match self {
+            Change::Edits(_) => 1,
+            Change::Bursts(_) => 2 + random.below(31),
+        }
+    }
+}
 
 /// States and buffers of both ends.
 #[derive(Clone, PartialEq)]
@@ -288,6 +438,20 @@ struct Buffers {
     sheet: Vec<u8>,
     question: [u8; QUESTION_BYTES],
     reply: [u8; REPLY_BYTES],
+}
+
+impl Buffers {
+    /// For a reference of so many bits under the house settings.
+    fn new(bits: usize) -> Buffers {
+        Buffers {
+            holder: [0; HOLDER_BYTES],
+            rebuilder: [0; REBUILDER_BYTES],
+            string: vec![0; bits.div_ceil(8)],
+            sheet: vec![0; ROW_BYTES * sheet_rows(bits, Settings::HOUSE.anchor as usize)],
+            question: [0; QUESTION_BYTES],
+            reply: [0; REPLY_BYTES],
+        }
+    }
 }
 
 #[derive(Debug, Default, PartialEq)]
@@ -308,27 +472,25 @@ struct Run {
 }
 
 impl Run {
-    /// Random X; Y with that many bits deleted and inserted in turns, deletions first.
-    fn new(bits: usize, edits: usize) -> Run {
-        let mut random = Random(7 + (bits * 1_000 + edits) as u64);
+    /// Random X; Y with bits lost and gained at random places.
+    fn new(bits: usize, change: Change) -> Run {
+        let mut random = Random(7 + (bits * 1_000 + change.count()) as u64);
         let x = random_bits(bits, &mut random);
         let mut y = x.clone();
-        for edit in 0..edits {
+        let mut length = 0;
+        for edit in 0..change.count() {
+            // What is gained is as long as what was lost before it, so that Y stays within X's length.
             if edit % 2 == 0 {
-                y.remove(random.below(y.len()));
+                length = change.length(&mut random);
+                let at = random.below(y.len() + 1 - length);
+                y.drain(at..at + length);
             } else {
                 let at = random.below(y.len() + 1);
-                y.insert(at, random.next() >> 63 == 1);
+                let gained = random_bits(length, &mut random);
+                y.splice(at..at, gained);
             }
         }
-        let buffers = Buffers {
-            holder: [0; HOLDER_BYTES],
-            rebuilder: [0; REBUILDER_BYTES],
-            string: vec![0; bits.div_ceil(8)],
-            sheet: vec![0; ROW_BYTES * sheet_rows(bits, Settings::HOUSE.anchor as usize)],
-            question: [0; QUESTION_BYTES],
-            reply: [0; REPLY_BYTES],
-        };
+        let buffers = Buffers::new(bits);
         Run {
             x: packed(&x),
             y: packed(&y),
@@ -356,22 +518,36 @@ impl Run {
     }
 }
 
-/// The last number of a question: its length.
-fn last_number(question: &[u8]) -> usize {
-    let (mut last, mut value, mut place) = (0, 0, 0);
+/// The third number of a question: the length of its range.
+fn range_length(question: &[u8]) -> usize {
+    let (mut numbers, mut value, mut place) = (0, 0, 0);
     for &byte in question {
         value |= (byte as usize & 0x7f) << place;
         place += 7;
         if byte < 0x80 {
-            last = value;
+            numbers += 1;
+            if numbers == 3 {
+                return value;
+            }
             (value, place) = (0, 0);
         }
     }
-    last
+    unreachable!("a question after the opening has three numbers or four")
 }
 
 /// A whole run under the house settings.
 fn run<E: Ends>(x: &BitString, y: &BitString, buffers: &mut Buffers) -> Traffic {
+    run_with::<E>(x, y, buffers, |_, _, _| ())
+}
+
+/// The same, seen by `see` at each question: the states of holder and rebuilder before its answer is
+/// given and taken, the question and the answer.
+fn run_with<E: Ends>(
+    x: &BitString,
+    y: &BitString,
+    buffers: &mut Buffers,
+    mut see: impl FnMut(([u8; HOLDER_BYTES], [u8; REBUILDER_BYTES]), &[u8], &[u8]),
+) -> Traffic {
     let Settings {
         anchor,
         hash,
@@ -395,6 +571,7 @@ fn run<E: Ends>(x: &BitString, y: &BitString, buffers: &mut Buffers) -> Traffic 
     ));
     while length > 0 {
         let question = &buffers.question[..length];
+        let states = (buffers.holder, buffers.rebuilder);
         let reply_length = taken(E::holder_answer(
             &mut buffers.holder,
             x.as_bytes(),
@@ -406,10 +583,11 @@ fn run<E: Ends>(x: &BitString, y: &BitString, buffers: &mut Buffers) -> Traffic 
         traffic.question_bytes += length;
         traffic.answer_bytes += reply_length;
         traffic.bits_asked += if traffic.questions > 1 {
-            last_number(question)
+            range_length(question)
         } else {
             0
         };
+        see(states, question, &buffers.reply[..reply_length]);
         traffic.whole = reply_length == 1 + x.bits().div_ceil(8);
         length = taken(E::rebuilder_call(
             &mut buffers.rebuilder,

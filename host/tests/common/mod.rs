@@ -10,7 +10,7 @@ pub use lunetteorris::layout::{
     REBUILDER_STAGE as STAGE, REBUILDER_WAITING as WAITING, REBUILDER_Y_BITS as Y_BITS, ROW_HOW,
     ROW_LENGTH, ROW_START,
 };
-use lunetteorris::model::{holder_sound, rebuilder_sound, Model};
+use lunetteorris::model::{holder_sound, rebuilder_sound, Model, NUMBERS_BYTES};
 use lunetteorris::{
     sheet_rows, unpack, BitString, Ends, Library, Refusal, Settings, HOLDER_BYTES, QUESTION_BYTES,
     REBUILDER_BYTES, ROW_BYTES,
@@ -125,6 +125,8 @@ pub enum Change {
     FewEdits,
     ManyEdits,
     Burst,
+    Bursts,
+    BurstAndSubstitutions,
     Substitutions,
     Mixed,
     Unrelated,
@@ -132,13 +134,15 @@ pub enum Change {
     Empty,
 }
 
-pub const CHANGES: [Change; 11] = [
+pub const CHANGES: [Change; 13] = [
     Change::None,
     Change::OneDeletion,
     Change::OneInsertion,
     Change::FewEdits,
     Change::ManyEdits,
     Change::Burst,
+    Change::Bursts,
+    Change::BurstAndSubstitutions,
     Change::Substitutions,
     Change::Mixed,
     Change::Unrelated,
@@ -161,6 +165,18 @@ fn substitute(random: &mut Random, y: &mut [bool]) {
     if !y.is_empty() {
         let at = random.below(y.len());
         y[at] = !y[at];
+    }
+}
+
+/// Loses or gains a run of at most so many bits.
+fn burst(random: &mut Random, y: &mut Vec<bool>, longest: usize) {
+    let at = random.below(y.len() + 1);
+    let length = random.between(2, longest);
+    if random.bit() {
+        y.drain(at..(at + length).min(y.len()));
+    } else {
+        let gained = random_bits(random, length);
+        y.splice(at..at, gained);
     }
 }
 
@@ -190,13 +206,18 @@ pub fn copy_of(random: &mut Random, x: &[bool], change: Change, most: usize) -> 
             insert_or_delete(random, &mut y, edits)
         }
         Change::Burst => {
-            let at = random.below(y.len() + 1);
-            let length = random.between(2, 60);
-            if random.bit() {
-                y.drain(at..(at + length).min(x.len()));
-            } else {
-                let burst = random_bits(random, length);
-                y.splice(at..at, burst);
+            let longest = random.pick(&[3, 32, 60]);
+            burst(random, &mut y, longest)
+        }
+        Change::Bursts => {
+            for _ in 0..random.between(2, 2 + x.len() / 400) {
+                burst(random, &mut y, 34);
+            }
+        }
+        Change::BurstAndSubstitutions => {
+            burst(random, &mut y, 34);
+            for _ in 0..random.between(1, 3) {
+                substitute(random, &mut y);
             }
         }
         Change::Substitutions => {
@@ -283,29 +304,60 @@ pub fn leftmost(state: &[u8]) -> Option<[usize; 4]> {
 }
 
 /// The question that a state asks after the opening, by its phase and stage as docs/STATE.md has
-/// them: kind, start, length. None when finished.
-pub fn asked(state: &[u8]) -> Option<[usize; 3]> {
-    let [x, p, _, q] = leftmost(state)?;
+/// them: kind, start, length, and B for a burst. Empty when finished.
+pub fn asked(state: &[u8]) -> Vec<usize> {
+    let Some([x, p, _, q]) = leftmost(state) else {
+        return vec![];
+    };
     if field(state, PHASE) == 2 {
-        return Some([3, 0, field(state, N)]);
+        return vec![3, 0, field(state, N)];
     }
     let m = field(state, M);
     let c = || (p - m) / 2;
-    Some(match field(state, STAGE) {
-        0 if q == p => [1, x, p],
-        1 if q + 1 == p => [2, x, p],
-        2 if q == p + 1 => [2, x, p],
-        3 => [3, x + c(), m],
-        4 => [3, x + c() + m, m],
-        5 => [3, x + c() - m, m],
-        6 => [3, x, p],
+    match field(state, STAGE) {
+        0 if q == p => vec![1, x, p],
+        1 if q + 1 == p => vec![2, x, p],
+        2 if q == p + 1 => vec![2, x, p],
+        3 => vec![3, x + c(), m],
+        4 => vec![3, x + c() + m, m],
+        5 => vec![3, x + c() - m, m],
+        6 => vec![3, x, p],
+        7 if is_burst(p, q) => vec![4, x, p, p.abs_diff(q)],
         stage => panic!("stage {stage} of a piece of {p} bits with {q} of Y"),
-    })
+    }
+}
+
+/// Whether a piece of p bits with q of Y is asked by its columns.
+pub fn is_burst(p: usize, q: usize) -> bool {
+    (2..=32).contains(&p.abs_diff(q))
 }
 
 /// How many questions the leftmost piece has had at most when it comes to a stage.
 pub fn questions_had(stage: u32) -> usize {
-    stage.saturating_sub(2) as usize
+    match stage {
+        7 => 0,
+        _ => stage.saturating_sub(2) as usize,
+    }
+}
+
+/// The B columns of some bits.
+pub fn columns(bits: &[bool], b: usize) -> Vec<Vec<bool>> {
+    (0..b)
+        .map(|j| bits.iter().skip(j).step_by(b).copied().collect())
+        .collect()
+}
+
+/// The bits that have these columns.
+pub fn woven(columns: &[Vec<bool>]) -> Vec<bool> {
+    let length = columns.iter().map(Vec::len).sum();
+    (0..length)
+        .map(|i| columns[i % columns.len()][i / columns.len()])
+        .collect()
+}
+
+/// A reply buffer of so many bytes is enough for every reply on n bits.
+pub fn reply_bytes(n: usize) -> usize {
+    (1 + n.div_ceil(8)).max(NUMBERS_BYTES)
 }
 
 /// The rows in use: start, length, how.

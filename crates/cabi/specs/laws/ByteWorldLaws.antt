@@ -32,18 +32,18 @@ use Rattle.layout.specs.laws.LayoutLaws.{HolderFits}
 use Rattle.layout.specs.laws.SheetLaws.{RowFits, rows-in-length, same-rows}
 use Rattle.cabi.specs.ByteWorlds.{ByteLent, ByteWorld, FairOnBytes, HolderDid, RebuilderDid, SupposedOnBytes, afterHolderDid, afterRebuilderDid, holderDoes, joinedBy, lentOf, rebuilderDoes, stepBytes, worldOf, writtenBy}
 use Rattle.cabi.specs.Calls.{HolderLeft, RebuilderLeft, capacitiesIn, holderLeft, holderOnBytes, rebuilderLeft, rebuilderOnBytes}
-use Rattle.cabi.specs.Packing.{packed}
+use Rattle.cabi.specs.Packing.{packed, valueUnit}
 use Rattle.cabi.specs.laws.CarriedLaws.{call-carried}
 use Rattle.cabi.specs.laws.HolderBytesLaws.{holder-called, holder-carried}
 use Rattle.cabi.specs.laws.PackingLaws.{refusal-read, value-read, value-refusal}
 use Rattle.cabi.specs.laws.RebuilderBytesLaws.{rebuilder-called}
 
 -- ---- what a number says
-pub packed-value : (v : ℕ) → packed (value v) ≡ v * 16
+pub packed-value : (v : ℕ) → packed (value v) ≡ v * valueUnit
 unfolding packed
 packed-value v = refl
 
-refusal-low : (e : Refusal) → packed (refusal (refusalNumber e)) % 16 ≡ 0 → ⊥
+refusal-low : (e : Refusal) → packed (refusal (refusalNumber e)) % valueUnit ≡ 0 → ⊥
 refusal-low e h =
     let s = refusal-small e in
     let r = refusal-read (refusalNumber e) (omega (arith, s .1)) in
@@ -54,13 +54,13 @@ joined-value : (v : ℕ) (m : List ℕ) (ms : List (List ℕ)) → joinedBy (pac
 joined-value v m ms = rw (value-refusal v) refl
 
 joined-refusal : (e : Refusal) (m : List ℕ) (ms : List (List ℕ)) → joinedBy (packed (refusal (refusalNumber e))) m ms ≡ ms
-joined-refusal e m ms = rw (ne-eqb (packed (refusal (refusalNumber e)) % 16) 0 (refusal-low e)) refl
+joined-refusal e m ms = rw (ne-eqb (packed (refusal (refusalNumber e)) % valueUnit) 0 (refusal-low e)) refl
 
 pub written-value : (before q buffer : List ℕ) → writtenBy (packed (value (length q))) before (atFront q buffer) ≡ q
 written-value before q buffer = rw (value-refusal (length q), value-read (length q)) (take-append-seam q (drop (length q) buffer))
 
 written-refusal : (e : Refusal) (before buffer : List ℕ) → writtenBy (packed (refusal (refusalNumber e))) before buffer ≡ before
-written-refusal e before buffer = rw (ne-eqb (packed (refusal (refusalNumber e)) % 16) 0 (refusal-low e)) refl
+written-refusal e before buffer = rw (ne-eqb (packed (refusal (refusalNumber e)) % valueUnit) 0 (refusal-low e)) refl
 
 -- the length of the next question; 0 at the finish
 abbrev questionSize : Option ℕ → ℕ
@@ -109,7 +109,7 @@ module _ (c : ByteLent) (sup : SupposedOnBytes c) where
       carried-fits : HolderFits (holderOf (did r .state))
       number : did r .result ≡ packed (leavesHolder (holderOf (b .holder)) reply r .answer)
       buffer : did r .reply ≡ leavesHolder (holderOf (b .holder)) reply r .reply
-      same : (did r .result % 16 ≡ 0 → ⊥) → (afterHolderDid b m (did r) ≡ b) × (did r .reply ≡ reply)
+      same : (did r .result % valueUnit ≡ 0 → ⊥) → (afterHolderDid b m (did r) ≡ b) × (did r .reply ≡ reply)
 
     steps : (r : Result Reply) → o ≡ r → Step r
     steps (refusal d) e =
@@ -183,7 +183,7 @@ module _ (c : ByteLent) (sup : SupposedOnBytes c) where
     holder-did = record { step = world-is; replies = exactly; unchanged = now-step .same }
       where
         exactly : (a : List ℕ) → m ≡ b .waiting → HoldersAnswer C m a → OnceEach (b .earlier) (b .heard)
-            → (holderDoes c b m reply .result ≡ length a * 16) × (holderDoes c b m reply .reply ≡ atFront a reply)
+            → (holderDoes c b m reply .result ≡ length a * valueUnit) × (holderDoes c b m reply .reply ≡ atFront a reply)
         exactly a e f g =
             let r = holder-claims C U (worldOf b) (k .known) m reply long .replies a e f g in
             let n = now-step .number ∙ ap (λ (x : Result Reply). packed (leavesHolder (holderOf (b .holder)) reply x .answer)) on-bytes ∙ ap packed (r .0) ∙ packed-value (length a) in
@@ -215,8 +215,8 @@ module _ (c : ByteLent) (sup : SupposedOnBytes c) where
       carried-is : isRebuilder (left r .state) ≡ true
       number : left r .result ≡ packed (mapped questionSize (leavesOnSheet (rebuilderOf (b .rebuilder)) (rowsIn (b .sheet)) (b .string) question r .said .answer))
       buffer : left r .question ≡ leavesOnSheet (rebuilderOf (b .rebuilder)) (rowsIn (b .sheet)) (b .string) question r .said .question
-      same : (left r .result % 16 ≡ 0 → ⊥) → (afterRebuilderDid b m (left r) ≡ b) × (left r .question ≡ question)
-      taken : left r .result % 16 ≡ 0 → WasTaken (leavesOnSheet (rebuilderOf (b .rebuilder)) (rowsIn (b .sheet)) (b .string) question r .said .answer)
+      same : (left r .result % valueUnit ≡ 0 → ⊥) → (afterRebuilderDid b m (left r) ≡ b) × (left r .question ≡ question)
+      taken : left r .result % valueUnit ≡ 0 → WasTaken (leavesOnSheet (rebuilderOf (b .rebuilder)) (rowsIn (b .sheet)) (b .string) question r .said .answer)
 
     taken-steps : (r : Result Taken) → t ≡ r → TakenStep r
     taken-steps (refusal d) e =
@@ -301,10 +301,10 @@ module _ (c : ByteLent) (sup : SupposedOnBytes c) where
     world-same = now-taken .world ∙ ap world-left heard-says
 
     -- taken there, taken here
-    low-taken : WasTaken says → rebuilderDoes c b m question .result % 16 ≡ 0
-    low-taken v = ap (λ (n : ℕ). n % 16) (number-is ∙ ap (λ (r : Result (Option ℕ)). packed (mapped questionSize r)) (v .1)) ∙ value-refusal (questionSize (v .0))
+    low-taken : WasTaken says → rebuilderDoes c b m question .result % valueUnit ≡ 0
+    low-taken v = ap (λ (n : ℕ). n % valueUnit) (number-is ∙ ap (λ (r : Result (Option ℕ)). packed (mapped questionSize r)) (v .1)) ∙ value-refusal (questionSize (v .0))
 
-    taken-low : rebuilderDoes c b m question .result % 16 ≡ 0 → WasTaken says
+    taken-low : rebuilderDoes c b m question .result % valueUnit ≡ 0 → WasTaken says
     taken-low h = let v = now-taken .taken h in (v .0, sym (ap answerOf heard-says) ∙ v .1)
 
     pub fair-same : FairOnBytes c b (toRebuilder m question) → FairCall C (worldOf b) (toRebuilder m question)
@@ -325,13 +325,13 @@ module _ (c : ByteLent) (sup : SupposedOnBytes c) where
           claims : RebuilderClaims C (worldOf b) (stepWorld C (worldOf b) (toRebuilder m question)) m question
           claims = rebuilder-claims C U (worldOf b) (k .known) m question long (fair-same fair)
 
-          gives : rebuilderDoes c b m question .result % 16 ≡ 0
-              → (rebuilderDoes c b m question .result ≡ length (fixed C (worldOf (stepBytes c b (toRebuilder m question)))) * 16)
+          gives : rebuilderDoes c b m question .result % valueUnit ≡ 0
+              → (rebuilderDoes c b m question .result ≡ length (fixed C (worldOf (stepBytes c b (toRebuilder m question)))) * valueUnit)
               × (rebuilderDoes c b m question .question ≡ atFront (fixed C (worldOf (stepBytes c b (toRebuilder m question)))) question)
           gives h =
               let g = claims .gives (taken-low h) in
               let q : List ℕ = fixed C (stepWorld C (worldOf b) (toRebuilder m question)) in
               let w = ap (fixed C) (sym world-same) in (
-                number-is ∙ ap (λ (r : Result (Option ℕ)). packed (mapped questionSize r)) (g .said) ∙ packed-value (questionSize (nextSize q)) ∙ ap (λ (n : ℕ). n * 16) (size-is q ∙ ap length w),
+                number-is ∙ ap (λ (r : Result (Option ℕ)). packed (mapped questionSize r)) (g .said) ∙ packed-value (questionSize (nextSize q)) ∙ ap (λ (n : ℕ). n * valueUnit) (size-is q ∙ ap length w),
                 now-taken .buffer ∙ ap (λ (r : Result Taken). leavesOnSheet (rebuilderOf (b .rebuilder)) (rowsIn (b .sheet)) (b .string) question r .said .question) heard-says ∙ g .written ∙ ap (λ (u : List ℕ). atFront u question) w,
               )

@@ -16,13 +16,16 @@ use Rattle.strings.specs.laws.ResultLaws.{no-value, value-is, unless-passed}
 use Rattle.strings.specs.declared.Refusal.{Refusal}
 use Rattle.strings.specs.declared.Refusal.the-variants.{BadString, OutOfTurn, BufferTooShort}
 use Rattle.codes.specs.Syndrome.{syndrome}
+use Rattle.codes.specs.Columns.{syndromes}
+use Rattle.codes.specs.laws.ColumnLaws.{syndromes-length}
 use Rattle.codes.specs.Hash.{hash}
 use Rattle.messages.specs.declared.Question.{Question}
-use Rattle.messages.specs.declared.Question.the-variants.{AskOpen, AskHash, AskSyndrome, AskBits}
-use Rattle.messages.specs.laws.QuestionLaws.{keyOf, fields-form}
-use Rattle.messages.specs.Numbers.{number}
-use Rattle.messages.specs.laws.NumberLaws.{size-most}
-use Rattle.messages.specs.Answers.{syndromeAnswer, answerBytes}
+use Rattle.messages.specs.declared.Question.the-variants.{AskOpen, AskHash, AskSyndrome, AskBits, AskBurst}
+use Rattle.messages.specs.laws.QuestionLaws.{keyOf, burst-few, fields-form, fields-within}
+use Rattle.messages.specs.Questions.{questionBurst}
+use Rattle.messages.specs.Numbers.{number, allNumbers}
+use Rattle.messages.specs.laws.NumberLaws.{size-most, numbers-most}
+use Rattle.messages.specs.Answers.{syndromeAnswer, burstAnswer, answerBytes}
 use Rattle.messages.specs.laws.AnswerLaws.{answer-size, size-answer-most, hash-answer-most, bits-answer-size}
 use Rattle.ends.specs.declared.Holder.{Holder}
 use Rattle.ends.specs.Anchors.{part}
@@ -34,7 +37,7 @@ use Rattle.ends.specs.declared.answering.HolderOut.{HolderOut}
 use Rattle.ends.specs.HolderOutcome.{HolderSaid, answerSaid, saidHolder, leavesHolder}
 use Rattle.layout.specs.Layout.{holderSize, holderBytes, holderOf, isHolder}
 use Rattle.layout.specs.laws.LayoutLaws.{HolderFits, holder-read, holder-bytes-front, length-holder}
-use Rattle.cabi.specs.Packing.{packed}
+use Rattle.cabi.specs.Packing.{packed, valueUnit}
 use Rattle.cabi.specs.Calls.{holderMade, holderOnBytes, HolderLeft, holderLeft, holderBytesOutcome}
 
 -- ---- a fresh holder
@@ -58,10 +61,10 @@ fresh-carried l = (
 part-most : (l : List Bool) (x p : ℕ) → length (part l x p) ≤ length l
 part-most l x p = let a = length-take p (drop x l) in let b = length-drop x l in omega arith
 
-answer-most : (h key : ℕ) (X : List Bool) (q : Question) → length X ≤ maxBits → length (answerBytes (answer h key X q)) ≤ maxBits
-answer-most h key X (AskOpen h′ key′) m = let e = size-answer-most (length X) m in omega arith
-answer-most h key X (AskHash x p) m = let e = hash-answer-most (hash h key (part X x p)) in omega arith
-answer-most h key X (AskSyndrome x p) m =
+answer-most : (h key : ℕ) (X : List Bool) (q : Question) → length X ≤ maxBits → questionBurst q ≤ 32 → length (answerBytes (answer h key X q)) ≤ maxBits
+answer-most h key X (AskOpen h′ key′) m few = let e = size-answer-most (length X) m in omega arith
+answer-most h key X (AskHash x p) m few = let e = hash-answer-most (hash h key (part X x p)) in omega arith
+answer-most h key X (AskSyndrome x p) m few =
     let a : ℕ = syndrome (part X x p) in
     let v : ℕ = hash h key (part X x p) in
     let e = answer-size (syndromeAnswer a v) in
@@ -69,7 +72,16 @@ answer-most h key X (AskSyndrome x p) m =
     let i = size-most a in
     let j = size-most v in
     omega arith
-answer-most h key X (AskBits x p) m = let e = bits-answer-size (part X x p) in let k = part-most X x p in omega arith
+answer-most h key X (AskBits x p) m few = let e = bits-answer-size (part X x p) in let k = part-most X x p in omega arith
+answer-most h key X (AskBurst x p b) m few =
+    let l : List ℕ = syndromes b (part X x p) in
+    let v : ℕ = hash h key (part X x p) in
+    let e = answer-size (burstAnswer l v) in
+    let f = length-append (allNumbers l) (number v) in
+    let n = syndromes-length b (part X x p) in
+    let i = numbers-most l in
+    let j = size-most v in
+    omega arith
 
 pub reply-most : (st : Holder) (x : List ℕ) (bits : ℕ) (msg : List ℕ) (capacity : ℕ) (r : Reply)
     → holderCall st x bits msg capacity ≡ value r → length (r .message) ≤ maxBits
@@ -77,7 +89,7 @@ reply-most st x bits msg capacity r e =
     let k = heard-call st x bits msg capacity (r .state) (r .message) e in
     let l = range-length x 0 bits in
     let f = k .few in
-    rw (k .sends) (answer-most (st .h) (st .key) (range x 0 bits) (k .q) (omega arith))
+    rw (k .sends) (answer-most (st .h) (st .key) (range x 0 bits) (k .q) (omega arith) (burst-few _ (k .q) (fields-within (k .kind) msg (k .at) bits (k .q) (k .fields) .1)))
 
 -- ---- the returns
 module _ (s x : List ℕ) (bits : ℕ) (msg reply : List ℕ) where
@@ -123,7 +135,7 @@ module _ (s reply reply′ : List ℕ) (st : Holder) (out : HolderOut) where
 
   holder-replied : (t : Result Reply) (size : ℕ) (s′ : List ℕ) → saidHolder out reply′ ≡ leavesHolder st reply t → out .answer ≡ Replied size
       → s′ ≡ holderBytes (out .state) ++ drop holderSize s
-      → record { result = size * 16; state = s′; reply = reply′ } ≡ holderLeft s reply t
+      → record { result = size * valueUnit; state = s′; reply = reply′ } ≡ holderLeft s reply t
   unfolding packed
   holder-replied (refusal number) size s′ k f g =
       let a : answerSaid (out .answer) ≡ refusal number = ap (λ (w : HolderSaid). w .answer) k in
@@ -174,7 +186,7 @@ module _ (k : HolderCalled) where
       holder-size (k .s) (k .reply) (k .reply′) (k .st) (k .out) heard size (k .said) a (reply-most (k .st) (k .x) (k .bits) (k .msg) (length (k .reply)))
 
   pub answer-replied : {size : ℕ} {s′ : List ℕ} → k .out .answer ≡ Replied size → s′ ≡ holderBytes (k .out .state) ++ drop holderSize (k .s)
-      → record { result = size * 16; state = s′; reply = k .reply′ } ≡ holderLeaves
+      → record { result = size * valueUnit; state = s′; reply = k .reply′ } ≡ holderLeaves
   answer-replied {size} {s′} a h = holder-replied (k .s) (k .reply) (k .reply′) (k .st) (k .out) heard size s′ (k .said) a h ∙ called
 
 -- ---- the bytes carry the state: what a taken call leaves, whatever follows it, is taken and read as its next state

@@ -13,33 +13,33 @@ use Rattle.ends.specs.AnchorSearch.{anchorSearch, saidAnchor}
 use Rattle.ends.specs.code.AnchorSearchLaws.{AnswerMost, search-most}
 use Rattle.ends.specs.declared.anchors.AnchorAnswer.{AnchorAnswer}
 use Rattle.ends.specs.declared.anchors.AnchorAnswer.the-variants.{Placed}
-use Rattle.cabi.specs.Packing.{packed, placeNumber}
+use Rattle.cabi.specs.Packing.{packed, placeNumber, valueUnit}
 
 -- ---- the host's side: the low four bits are the refusal, the rest is the value
-pub refusal-read : (e : ℕ) → e < 16 → packed (refusal e) % 16 ≡ e
+pub refusal-read : (e : ℕ) → e < valueUnit → packed (refusal e) % valueUnit ≡ e
 unfolding packed
 refusal-read e h = omega arith
 
-pub value-refusal : (v : ℕ) → packed (value v) % 16 ≡ 0
+pub value-refusal : (v : ℕ) → packed (value v) % valueUnit ≡ 0
 unfolding packed
 value-refusal v = omega arith
 
-pub value-read : (v : ℕ) → packed (value v) / 16 ≡ v
+pub value-read : (v : ℕ) → packed (value v) / valueUnit ≡ v
 unfolding packed
 value-read v = omega arith
 
 -- ---- a place is at most 65,536, so that it fits
-answer-fits : (x : Result (Option ℕ)) → AnswerMost x → packed (mapped placeNumber x) ≤ 1048592
+answer-fits : (x : Result (Option ℕ)) → AnswerMost x → packed (mapped placeNumber x) ≤ 16777472
 unfolding packed
 answer-fits (refusal e) h = omega arith
 answer-fits (value none) h = omega arith
 answer-fits (value (some r)) h = omega arith
 
-pub place-fits : (y : List ℕ) (bits start q p s m k : ℕ) (a : List ℕ) → packed (mapped placeNumber (anchorSearch y bits start q p s m k a)) ≤ 1048592
+pub place-fits : (y : List ℕ) (bits start q p s m k : ℕ) (a : List ℕ) → packed (mapped placeNumber (anchorSearch y bits start q p s m k a)) ≤ 16777472
 place-fits y bits start q p s m k a = answer-fits (anchorSearch y bits start q p s m k a) (search-most y bits start q p s m k a)
 
 -- ---- for the code
-pub place-small : (a : AnchorAnswer) (r : ℕ) → packed (mapped placeNumber (saidAnchor a)) ≤ 1048592 → a ≡ Placed r → r ≤ maxBits
+pub place-small : (a : AnchorAnswer) (r : ℕ) → packed (mapped placeNumber (saidAnchor a)) ≤ 16777472 → a ≡ Placed r → r ≤ maxBits
 unfolding packed
 place-small a r h e = let g = rw e at h in omega arith
 

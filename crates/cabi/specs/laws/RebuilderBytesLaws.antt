@@ -15,7 +15,7 @@ use Rattle.strings.specs.laws.ResultLaws.{no-value, value-is}
 use Rattle.strings.specs.declared.Refusal.{Refusal}
 use Rattle.strings.specs.declared.Refusal.the-variants.{BadSetting, BadString, OutOfTurn, BufferTooShort}
 use Rattle.messages.specs.declared.Question.{Question}
-use Rattle.messages.specs.declared.Question.the-variants.{AskOpen, AskHash, AskSyndrome, AskBits}
+use Rattle.messages.specs.declared.Question.the-variants.{AskOpen, AskHash, AskSyndrome, AskBits, AskBurst}
 use Rattle.messages.specs.Numbers.{number}
 use Rattle.messages.specs.laws.NumberLaws.{size-most}
 use Rattle.messages.specs.Kinds.{kindNumber}
@@ -38,7 +38,7 @@ use Rattle.ends.specs.code.SheetCallLaws.{change-fits}
 use Rattle.layout.specs.Layout.{rebuilderSize, rebuilderBytes, rebuilderOf, isRebuilder}
 use Rattle.layout.specs.laws.LayoutLaws.{length-rebuilder}
 use Rattle.layout.specs.Sheet.{rowSize, sheetBytesAfter}
-use Rattle.cabi.specs.Packing.{packed}
+use Rattle.cabi.specs.Packing.{packed, valueUnit}
 use Rattle.cabi.specs.Calls.{startOnBytes, StartLeft, startLeft, rebuilderOnBytes, capacitiesIn, RebuilderLeft, rebuilderLeft, startBytesOutcome, rebuilderBytesOutcome}
 
 -- ---- a question has at most 16 bytes, whatever its numbers
@@ -58,6 +58,7 @@ question-most q =
     fields (AskHash start len) = let j = two start len in omega arith
     fields (AskSyndrome start len) = let j = two start len in omega arith
     fields (AskBits start len) = let j = two start len in omega arith
+    fields (AskBurst start len b) = let e = length-append (number start) (number len ++ number b) in let i = size-most start in let j = two len b in omega arith
 
 written-most : (o : Option Question) → length (writtenQuestion o) ≤ 16
 written-most none = omega arith
@@ -125,7 +126,7 @@ module _ (s string sheet question string′ question′ : List ℕ) (st : Rebuil
 
     said-taken : (t : Result Taken) (s′ sheet′ : List ℕ) → saidRebuilder out string′ question′ ≡ leavesRebuilder st string question t
         → s′ ≡ rebuilderBytes (out .state) ++ drop rebuilderSize s → sheet′ ≡ sheetBytesAfter sheet (out .sheet)
-        → record { result = askedSize n * 16; state = s′; string = string′; sheet = sheet′; question = question′ } ≡ rebuilderLeft s string sheet question t
+        → record { result = askedSize n * valueUnit; state = s′; string = string′; sheet = sheet′; question = question′ } ≡ rebuilderLeft s string sheet question t
     unfolding packed
     said-taken (refusal number) s′ sheet′ k g h =
         let a : callSaid (out .answer) ≡ refusal number = ap (λ (w : RebuilderSaid). w .answer) k in
@@ -194,7 +195,7 @@ module _ (k : RebuilderCalled) where
         said-small (k .s) (k .string) (k .sheet) (k .question) (k .string′) (k .question′) (k .st) (k .out) n a heard (k .said)
         (taken-small (k .st) (k .y) (k .bits) (k .msg) capacities)
 
-    pub call-taken : {r : ℕ} {s′ sheet′ : List ℕ} → r ≡ askedSize n * 16 → s′ ≡ rebuilderBytes (k .out .state) ++ drop rebuilderSize (k .s) → sheet′ ≡ sheetBytesAfter (k .sheet) (k .out .sheet)
+    pub call-taken : {r : ℕ} {s′ sheet′ : List ℕ} → r ≡ askedSize n * valueUnit → s′ ≡ rebuilderBytes (k .out .state) ++ drop rebuilderSize (k .s) → sheet′ ≡ sheetBytesAfter (k .sheet) (k .out .sheet)
         → record { result = r; state = s′; string = k .string′; sheet = sheet′; question = k .question′ } ≡ calledLeaves
     call-taken {r} {s′} {sheet′} h i j =
         (rw h (said-taken (k .s) (k .string) (k .sheet) (k .question) (k .string′) (k .question′) (k .st) (k .out) n a heard s′ sheet′ (k .said) i j)) ∙ called
@@ -237,7 +238,7 @@ module _ (s question question′ : List ℕ) (out : StartOut) where
 
   start-begins : (t : Result Started) (size : ℕ) (s′ : List ℕ) → saidStart out question′ ≡ leavesStart question t → out .answer ≡ Begun size
       → s′ ≡ rebuilderBytes (out .state) ++ drop rebuilderSize s
-      → record { result = size * 16; state = s′; question = question′ } ≡ startLeft s question t
+      → record { result = size * valueUnit; state = s′; question = question′ } ≡ startLeft s question t
   unfolding packed
   start-begins (refusal number) size s′ k f g =
       let a : startSaid (out .answer) ≡ refusal number = ap (λ (w : StartSaid). w .answer) k in
@@ -303,5 +304,5 @@ module _ (k : StartCalled) where
   start-declined {d} a i = (rw i (start-declines (k .s) (k .question) (k .question′) (k .out) began d said-began a)) ∙ began-leaves
 
   pub start-begun : {size : ℕ} {s′ : List ℕ} → k .out .answer ≡ Begun size → s′ ≡ rebuilderBytes (k .out .state) ++ drop rebuilderSize (k .s)
-      → record { result = size * 16; state = s′; question = k .question′ } ≡ startLeaves
+      → record { result = size * valueUnit; state = s′; question = k .question′ } ≡ startLeaves
   start-begun {size} {s′} a i = start-begins (k .s) (k .question) (k .question′) (k .out) began size s′ said-began a i ∙ began-leaves

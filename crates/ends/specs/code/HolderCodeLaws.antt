@@ -1,12 +1,14 @@
 -- Laws for the proofs of src/answering.rt.
 use mathlib.Core.Path.{_≡_, refl, sym, ap, ap₂, _∙_, subst}
 use mathlib.Core.Bool.{Bool, true, false, cond, _&&_}
-use mathlib.Core.List.{List}
-use Prim.Native.Nat.{ℕ, _≤_, _<_}
+use mathlib.Core.List.{List, [], _∷_, _++_}
+use Prim.Native.Nat.{ℕ, _+_, _≤_, _<_}
 use native.Mathlib.Nat.{zero-add}
+use native.Mathlib.Numerals.{add-one}
 use native.Mathlib.Omega.{arith}
 use native.Mathlib.Decide.{decLt}
-use lib.ListN.{length}
+use lib.ListN.{length, set, take}
+use lib.Seq.{take-all, take-suc, take-suc-set}
 use lib.Dec.{leb, ltb, eqb}
 use borrow.Author.Tests.{lt-leb, le-leb, leb-true, ltb-true, eqb-true}
 use Rattle.messages.specs.declared.WriteResult.the-variants.{Written, TooShort}
@@ -26,14 +28,14 @@ use Rattle.messages.specs.declared.Kind.{Kind}
 use Rattle.messages.specs.declared.KindRead.{KindRead}
 use Rattle.messages.specs.declared.KindRead.the-variants.{Known, NoKind}
 use Rattle.messages.specs.declared.Question.{Question}
-use Rattle.messages.specs.declared.Question.the-variants.{AskOpen, AskHash, AskSyndrome, AskBits}
+use Rattle.messages.specs.declared.Question.the-variants.{AskOpen, AskHash, AskSyndrome, AskBits, AskBurst}
 use Rattle.messages.specs.declared.QuestionRead.{QuestionRead}
 use Rattle.messages.specs.declared.QuestionRead.the-variants.{Asked, NoQuestion}
 use Rattle.messages.specs.declared.WriteResult.{WriteResult}
 use Rattle.messages.specs.Kinds.{kindAt, saidKind}
 use Rattle.messages.specs.Questions.{fieldsAt, saidQuestion}
 use Rattle.messages.specs.laws.QuestionLaws.{Within, RangeWithin, fields-within}
-use Rattle.messages.specs.Answers.{Answer, sizeAnswer, hashAnswer, syndromeAnswer, bitsAnswer, answerBytes}
+use Rattle.messages.specs.Answers.{Answer, sizeAnswer, hashAnswer, syndromeAnswer, bitsAnswer, answerBytes, burstAnswer}
 use Rattle.messages.specs.Writing.{putFront, Wrote, saidWrite}
 use Rattle.messages.specs.laws.WritingLaws.{put-fits, put-short}
 use Rattle.ends.specs.declared.Holder.{Holder}
@@ -44,6 +46,8 @@ use Rattle.ends.specs.HolderCall.{sameBitCount, inTurn, sends, answersTo
 use Rattle.ends.specs.declared.answering.HolderOut.{HolderOut}
 use Rattle.ends.specs.HolderOutcome.{HolderSaid, saidHolder, leavesHolder}
 use Rattle.ends.specs.code.HolderParts.{refused, written, openedWith, oneMore, Answers, Able, Ready}
+use Rattle.codes.specs.Columns.{column, syndromes}
+use Rattle.codes.specs.laws.ColumnLaws.{column-short, syndromes-at, syndromes-length}
 
 -- ---- a call that is turned down, and one that writes its answer
 pub refused-holder : {st : Holder} {e : Refusal} {r : HolderOut} (reply : List ℕ) {heard : Result Reply} → r ≡ refused st e → heard ≡ refusal (refusalNumber e) → saidHolder r reply ≡ leavesHolder st reply heard
@@ -82,6 +86,27 @@ syndrome-few x start len =
     let m = syndrome-most (range x start len) in
     let e = range-length x start len in
     omega arith
+
+pub column-few : (x : List ℕ) (start len b j : ℕ) → syndrome (column b j (range x start len)) ≤ len
+column-few x start len b j =
+    let m = syndrome-most (column b j (range x start len)) in
+    let k = column-short b j (range x start len) in
+    let e = range-length x start len in
+    omega arith
+
+-- ---- the loop over the columns writes their syndromes one behind the other: a turn, and its end
+module _ (b j : ℕ) (l : List Bool) (a : List ℕ) (is : take j a ≡ take j (syndromes b l)) where
+  pub syndromes-next : (v : ℕ) → j < b → j < length a → v ≡ syndrome (column b j l) → take (j + 1) (set a j v) ≡ take (j + 1) (syndromes b l)
+  syndromes-next v h k e =
+      let m = syndromes-length b l in
+      ap (λ (i : ℕ). take i (set a j v)) (add-one j)
+      ∙ take-suc-set a j v k
+      ∙ ap₂ (λ (xs : List ℕ) (x : ℕ). xs ++ (x ∷ [])) is (e ∙ sym (syndromes-at b l j h))
+      ∙ sym (take-suc (syndromes b l) j 0 (omega arith))
+      ∙ ap (λ (i : ℕ). take i (syndromes b l)) (sym (add-one j))
+
+  pub syndromes-all : j ≡ b → take b a ≡ syndromes b l
+  syndromes-all e = let m = syndromes-length b l in ap (λ (i : ℕ). take i a) (sym e) ∙ is ∙ take-all j (syndromes b l) (omega arith)
 
 -- an unopened sound state has h 0
 sound-width : (st : Holder) → holderSound st ≡ true → st .h ≤ 32
@@ -145,6 +170,11 @@ module _ (st : Holder) (x : List ℕ) (n : ℕ) where
           → s ≡ leavesHolder st reply (sends (length reply) (oneMore st) (answerBytes (syndromeAnswer (syndrome (range x start len)) (hash (st .h) (st .key) (range x start len)))))
           → s ≡ leavesHolder st reply (answersTo st x n (length reply) q)
       syndrome-asked e f = range-asked (λ l. syndromeAnswer (syndrome l) (hash (st .h) (st .key) l)) start len (ready-within g e) e refl f
+
+      pub burst-asked : {b : ℕ} → q ≡ AskBurst start len b
+          → s ≡ leavesHolder st reply (sends (length reply) (oneMore st) (answerBytes (burstAnswer (syndromes b (range x start len)) (hash (st .h) (st .key) (range x start len)))))
+          → s ≡ leavesHolder st reply (answersTo st x n (length reply) q)
+      burst-asked {b} e f = range-asked (λ l. burstAnswer (syndromes b l) (hash (st .h) (st .key) l)) start len (ready-within g e .range) e refl f
 
       pub bits-asked : q ≡ AskBits start len
           → s ≡ leavesHolder st reply (sends (length reply) (oneMore st) (answerBytes (bitsAnswer (range x start len))))

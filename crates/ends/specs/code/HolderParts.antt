@@ -6,7 +6,8 @@ use Prim.Native.Nat.{ℕ, _+_, _≤_, _<_}
 use lib.ListN.{length}
 use Rattle.codes.specs.Hash.{hash}
 use Rattle.codes.specs.Syndrome.{syndrome}
-use Rattle.messages.specs.Answers.{Answer, hashAnswer, syndromeAnswer, answerBytes}
+use Rattle.messages.specs.Answers.{Answer, hashAnswer, syndromeAnswer, burstAnswer, answerBytes}
+use Rattle.codes.specs.Columns.{syndromes}
 use Rattle.strings.specs.Bits.{Part}
 use Rattle.strings.specs.StringRule.{stringRule}
 use Rattle.strings.specs.declared.Refusal.{Refusal}
@@ -46,6 +47,9 @@ hashReply st l = hashAnswer (hash (st .h) (st .key) l)
 
 abbrev pub syndromeReply : Holder → List Bool → Answer
 syndromeReply st l = syndromeAnswer (syndrome l) (hash (st .h) (st .key) l)
+
+abbrev pub burstReply : Holder → ℕ → List Bool → Answer
+burstReply st b l = burstAnswer (syndromes b l) (hash (st .h) (st .key) l)
 
 -- what sending the answer a, with the state next after it, leaves
 abbrev pub replyOutcome : (st next : Holder) → Answer → (reply : List ℕ) → HolderSaid

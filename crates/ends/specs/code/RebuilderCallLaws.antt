@@ -21,7 +21,7 @@ use Rattle.strings.specs.Bits.{Bytes}
 use Rattle.strings.specs.declared.Refusal.{Refusal}
 use Rattle.strings.specs.declared.Refusal.the-variants.{BadSetting, BadString, OutOfTurn, BufferTooShort}
 use Rattle.messages.specs.declared.Kind.{Kind}
-use Rattle.messages.specs.declared.Kind.the-variants.{Open, Hash, Syndrome, Bits}
+use Rattle.messages.specs.declared.Kind.the-variants.{Open, Hash, Syndrome, Bits, Burst}
 use Rattle.messages.specs.declared.WriteResult.{WriteResult}
 use Rattle.messages.specs.declared.WriteResult.the-variants.{Written, TooShort}
 use Rattle.messages.specs.Writing.{putFront, saidWrite}
@@ -29,9 +29,10 @@ use Rattle.messages.specs.laws.WritingLaws.{wrote-is}
 use Rattle.messages.specs.declared.Question.{Question}
 use Rattle.messages.specs.declared.Question.the-variants.{AskOpen}
 use Rattle.messages.specs.declared.AnswerRead.{AnswerRead}
-use Rattle.messages.specs.declared.AnswerRead.the-variants.{IsSize, IsHash, IsSyndrome, IsBits, NoAnswer}
-use Rattle.messages.specs.Questions.{questionKind, questionBytes, questionLength}
-use Rattle.messages.specs.Answers.{Answer, sizeAnswer, hashAnswer, syndromeAnswer, bitsAnswer, readAnswer, saidAnswer, BitsThere, BitsAt}
+use Rattle.messages.specs.declared.AnswerRead.the-variants.{IsSize, IsHash, IsSyndrome, IsBits, NoAnswer, IsBurst}
+use Rattle.messages.specs.Questions.{questionKind, questionBytes, questionLength, questionBurst}
+use Rattle.messages.specs.Answers.{Answer, sizeAnswer, hashAnswer, syndromeAnswer, bitsAnswer, readAnswer, saidAnswer, BitsThere, BitsAt, burstAnswer, burstSyndromes, BurstAnswered}
+use Rattle.messages.specs.laws.QuestionLaws.{burst-few}
 use Rattle.messages.specs.laws.AnswerLaws.{answerKind, answer-form, bits-read, range-rest}
 use Rattle.strings.specs.declared.settings.Settings.{Settings}
 use Rattle.ends.specs.declared.How.the-variants.{ByBits}
@@ -57,12 +58,13 @@ use Rattle.ends.specs.declared.rebuilding.StartOut.{StartOut}
 use Rattle.ends.specs.code.StateCode.{Usable, Counts}
 use Rattle.ends.specs.code.SoundLaws.{sound-counts}
 use Rattle.ends.specs.RebuilderOutcome.{RebuilderSaid, saidRebuilder, leavesRebuilder, noRebuilder, saidStart, leavesStart}
-use Rattle.ends.specs.code.RebuilderParts.{OutIs, Acting, AsksBits, RepairDue, putsIn, takesOut, bitsOfStage, stepTaken, Opening, WholeDue, BitsDue, dueLength, Due, enoughForAnswer, heardStep, turnedDown}
-use Rattle.ends.specs.code.RebuilderCodeLaws.{out-to, out-said, step-said, size-most, question-short}
+use Rattle.ends.specs.code.RebuilderParts.{OutIs, Acting, AsksBits, RepairDue, BurstDue, burstOf, putsIn, takesOut, bitsOfStage, stepTaken, Opening, WholeDue, BitsDue, dueLength, Due, enoughForAnswer, heardStep, turnedDown}
+use Rattle.ends.specs.code.RebuilderCodeLaws.{out-to, out-said, step-said, size-most, question-range, question-short}
 use Rattle.ends.specs.declared.Stage.{Stage}
-use Rattle.ends.specs.declared.Stage.the-variants.{Hashing, PuttingIn, TakingOut, Anchor, AllBits}
+use Rattle.ends.specs.declared.Stage.the-variants.{Hashing, PuttingIn, TakingOut, Anchor, AllBits, Columns}
 use Rattle.ends.specs.declared.Phase.{Phase}
 use Rattle.ends.specs.declared.Phase.the-variants.{AtOpening, AtPieces, AtWhole}
+use Rattle.codes.specs.Columns.{syndromes}
 
 -- ---- the whole string
 module _ (st : Rebuilder) (size capacity : ℕ) (k : WholeDue st size capacity) where
@@ -173,25 +175,27 @@ record ForPiece (st : Rebuilder) (q : Question) : Type 0 where
   phase : st .phase ≡ AtPieces
   pieces : PiecesIs st
   some : 0 < st .waiting
-  asked : asks (st .settings) (top st .x) (top st .p) (st .stage) ≡ q
+  asked : asks (st .settings) (top st .x) (top st .p) (top st .q) (st .stage) ≡ q
 
 -- what holds of a state whose question q is of a kind and for len bits
 abbrev KindDue : Rebuilder → Question → ℕ → Kind → Type 0
 KindDue st q len Open = st .phase ≡ AtOpening
 KindDue st q len Hash = ForPiece st q × (st .stage ≡ Hashing) × (top st .q ≡ top st .p)
 KindDue st q len Syndrome = ForPiece st q × RepairDue st
+KindDue st q len Burst = ForPiece st q × BurstDue st
 KindDue st q len Bits = (dueLength st ≡ len) × ((st .phase ≡ AtWhole) ⊎ (ForPiece st q × AsksBits (st .stage)))
 
 abbrev AskDue : Rebuilder → (q x : Question) → Type 0
 AskDue st q x = KindDue st q (questionLength x) (questionKind x)
 
-piece-due : (st : Rebuilder) (q : Question) → Limits (st .settings) → ForPiece st q → AskDue st q (asks (st .settings) (top st .x) (top st .p) (st .stage))
+piece-due : (st : Rebuilder) (q : Question) → Limits (st .settings) → ForPiece st q → AskDue st q (asks (st .settings) (top st .x) (top st .p) (top st .q) (st .stage))
 piece-due st q L k = go (st .stage) refl (fits-stage (st .settings) L (top st .p) (top st .q) (st .stage) (top-is st (k .pieces .stack) (k .some) .stage))
   where
-    go : (t : Stage) → st .stage ≡ t → StageOk (st .settings) (top st .p) (top st .q) t → AskDue st q (asks (st .settings) (top st .x) (top st .p) t)
+    go : (t : Stage) → st .stage ≡ t → StageOk (st .settings) (top st .p) (top st .q) t → AskDue st q (asks (st .settings) (top st .x) (top st .p) (top st .q) t)
     go Hashing e o = (k, e, o)
     go PuttingIn e o = (k, putsIn e o)
     go TakingOut e o = (k, takesOut e o)
+    go Columns e o = (k, record { stage = e; least = o .0; most = o .1 })
     go (Anchor i) e o = (due-stage st (k .phase) ∙ rw e refl, inr (k, rw e tt))
     go AllBits e o = (due-stage st (k .phase) ∙ rw e refl, inr (k, rw e tt))
 
@@ -210,24 +214,28 @@ enough-is st n r e =
     let b = and-right (leb (bytesFor n) (r .string)) _ e in
     (leb-true (bytesFor n) (r .string) a, leb-true 8 (r .question) (and-right (leb (2 * (n / st .settings .m) + 1) (r .sheet)) _ b))
 
+-- ---- a question that waits has at most 32 columns
+pub burst-most : (st : Rebuilder) (q : Question) → sound st ≡ true → planned st ≡ some q → questionBurst q ≤ 32
+burst-most st q s p = burst-few _ q (question-range st q s p .0 .within)
+
 -- ---- what was read
-module _ (st : Rebuilder) (msg : List ℕ) (len : ℕ) (read : AnswerRead) (d : Due st msg len read) where
+module _ (st : Rebuilder) (msg : List ℕ) (len cols : ℕ) (read : AnswerRead) (d : Due st msg len cols read) where
   framed-now : Framed st
   framed-now = sound-is st (d .sound-now) .0
 
-  module _ (a : Answer) (v : saidAnswer msg len read ≡ value a) where
-    read-value : readAnswer (questionKind (d .question)) (questionLength (d .question)) (st .settings .h) msg ≡ value a
+  module _ (a : Answer) (v : saidAnswer msg len cols read ≡ value a) where
+    read-value : readAnswer (questionKind (d .question)) (questionLength (d .question)) (questionBurst (d .question)) (st .settings .h) msg ≡ value a
     read-value = sym (d .read-is) ∙ v
 
     proper-now : ProperFor (st .settings) (d .question) a
-    proper-now = answer-form (questionKind (d .question)) (questionLength (d .question)) (st .settings .h) msg a read-value .proper
+    proper-now = answer-form (questionKind (d .question)) (questionLength (d .question)) (questionBurst (d .question)) (st .settings .h) msg a read-value .proper
 
     kind-now : KindDue st (d .question) (questionLength (d .question)) (answerKind a)
     kind-now = rw (proper-now .of-kind) (kind-due st (d .question) (framed-now .limits) (phase-of st (d .question) (sound-is st (d .sound-now) .1) (d .asked)))
 
     size-now : length msg ≡ sizeOf a
     unfolding sizeOf
-    size-now = ap length (answer-form (questionKind (d .question)) (questionLength (d .question)) (st .settings .h) msg a read-value .bytes (d .bytes))
+    size-now = ap length (answer-form (questionKind (d .question)) (questionLength (d .question)) (questionBurst (d .question)) (st .settings .h) msg a read-value .bytes (d .bytes))
 
     -- for the leftmost piece
     piece-acting : ForPiece st (d .question) → (capacity : ℕ) → 8 ≤ capacity → Acting st (length msg) capacity
@@ -240,20 +248,46 @@ module _ (st : Rebuilder) (msg : List ℕ) (len : ℕ) (read : AnswerRead) (d : 
 
   pub heard-size : (n : ℕ) → read ≡ IsSize n → (capacity : ℕ) → 8 ≤ capacity → Opening st n capacity
   heard-size n f capacity h =
-      let v = ap (saidAnswer msg len) f in
+      let v = ap (saidAnswer msg len cols) f in
       record { sound-now = d .sound-now; array = d .array; phase = kind-now (sizeAnswer n) v; small = proper-now (sizeAnswer n) v .values; enough = h }
 
   pub heard-hash : (v : ℕ) → read ≡ IsHash v → (capacity : ℕ) → 8 ≤ capacity → Acting st (length msg) capacity × ((st .stage ≡ Hashing) × (top st .q ≡ top st .p))
   heard-hash v f capacity h =
-      let w = ap (saidAnswer msg len) f in
+      let w = ap (saidAnswer msg len cols) f in
       let k = kind-now (hashAnswer v) w in
       (piece-acting (hashAnswer v) w (k .0) capacity h, (k .1, k .2))
 
   pub heard-syndrome : (a v : ℕ) → read ≡ IsSyndrome a v → (capacity : ℕ) → 8 ≤ capacity → Acting st (length msg) capacity × RepairDue st
   heard-syndrome a v f capacity h =
-      let w = ap (saidAnswer msg len) f in
+      let w = ap (saidAnswer msg len cols) f in
       let k = kind-now (syndromeAnswer a v) w in
       (piece-acting (syndromeAnswer a v) w (k .0) capacity h, k .1)
+
+  pub heard-burst : (v : ℕ) → read ≡ IsBurst v → (capacity : ℕ) → 8 ≤ capacity → Acting st (length msg) capacity × BurstDue st
+  heard-burst v f capacity h =
+      let w = ap (saidAnswer msg len cols) f in
+      let k = kind-now (burstAnswer (burstSyndromes cols msg) v) w in
+      (piece-acting (burstAnswer (burstSyndromes cols msg) v) w (k .0) capacity h, k .1)
+
+  -- as many columns as the lengths are bits apart
+  pub burst-cols : (v : ℕ) → read ≡ IsBurst v → cols ≡ burstOf st
+  burst-cols v f =
+      let k = kind-now (burstAnswer (burstSyndromes cols msg) v) (ap (saidAnswer msg len cols) f) in
+      let e = k .0 .asked in
+      d .asked-burst ∙ ap questionBurst (sym e) ∙ ap (λ (t : Stage). questionBurst (asks (st .settings) (top st .x) (top st .p) (top st .q) t)) (k .1 .stage)
+
+  pub cols-few : cols ≤ 32
+  cols-few = let m = burst-most st (d .question) (d .sound-now) (d .asked) in let e = d .asked-burst in omega arith
+
+  pub burst-answered : (v : ℕ) → read ≡ IsBurst v → BurstAnswered cols msg
+  burst-answered v f = record {
+    kind = questionKind (d .question);
+    len = questionLength (d .question);
+    h = st .settings .h;
+    syndromes = burstSyndromes cols msg;
+    hash = v;
+    read = ap (λ (c : ℕ). readAnswer (questionKind (d .question)) (questionLength (d .question)) c (st .settings .h) msg) (d .asked-burst) ∙ read-value (burstAnswer (burstSyndromes cols msg) v) (ap (saidAnswer msg len cols) f);
+  }
 
   -- the bits that were read
   module _ (at : ℕ) (f : read ≡ IsBits at) where
@@ -261,7 +295,7 @@ module _ (st : Rebuilder) (msg : List ℕ) (len : ℕ) (read : AnswerRead) (d : 
     bitsHeard = bitsAnswer (range msg (8 * at) len)
 
     bits-due : (dueLength st ≡ len) × ((st .phase ≡ AtWhole) ⊎ (ForPiece st (d .question) × AsksBits (st .stage)))
-    bits-due = rw (d .asked-length) (kind-now bitsHeard (ap (saidAnswer msg len) f))
+    bits-due = rw (d .asked-length) (kind-now bitsHeard (ap (saidAnswer msg len cols) f))
 
     pub heard-bits : (capacity : ℕ) → 8 ≤ capacity → BitsDue st (length msg) capacity × (dueLength st ≡ len)
     heard-bits capacity h = (record { phases = go (bits-due .1) }, bits-due .0)
@@ -270,10 +304,10 @@ module _ (st : Rebuilder) (msg : List ℕ) (len : ℕ) (read : AnswerRead) (d : 
         go (inl p) =
             let e : st .n ≡ len = sym (due-whole st p) ∙ bits-due .0 in
             let r = range-length msg (8 * at) len in
-            let q = size-now bitsHeard (ap (saidAnswer msg len) f) in
+            let q = size-now bitsHeard (ap (saidAnswer msg len cols) f) in
             let u = size-bits (range msg (8 * at) len) in
             inl record { sound-now = d .sound-now; phase = p; short = omega arith; enough = h }
-        go (inr k) = inr (piece-acting bitsHeard (ap (saidAnswer msg len) f) (k .0) capacity h, k .1)
+        go (inr k) = inr (piece-acting bitsHeard (ap (saidAnswer msg len cols) f) (k .0) capacity h, k .1)
 
     bits-there : BitsAt len msg at
     bits-there = bits-read msg len at (d .bits-there) f
@@ -293,16 +327,23 @@ module _ (st : Rebuilder) (msg : List ℕ) (len : ℕ) (read : AnswerRead) (d : 
       rw r (omega arith)
 
   -- ---- what a taken answer leaves
-  pub read-said : {b : AnswerRead} → read ≡ b → (y s q : List ℕ) {x : RebuilderSaid} → x ≡ leavesRebuilder st s q (heardStep st y msg len b) → x ≡ leavesRebuilder st s q (heardStep st y msg len read)
-  read-said e y s q f = f ∙ ap (λ (z : AnswerRead). leavesRebuilder st s q (heardStep st y msg len z)) (sym e)
+  pub read-said : {b : AnswerRead} → read ≡ b → (y s q : List ℕ) {x : RebuilderSaid} → x ≡ leavesRebuilder st s q (heardStep st y msg len cols b) → x ≡ leavesRebuilder st s q (heardStep st y msg len cols read)
+  read-said e y s q f = f ∙ ap (λ (z : AnswerRead). leavesRebuilder st s q (heardStep st y msg len cols z)) (sym e)
 
   pub bits-said : (at : ℕ) → read ≡ IsBits at → (y s q : List ℕ) {x : RebuilderSaid}
       → x ≡ leavesRebuilder st s q (stepTaken (stepOf st y (length msg) (bitsAnswer (range (take (length msg - at) (drop at msg)) 0 (dueLength st)))))
-      → x ≡ leavesRebuilder st s q (heardStep st y msg len read)
+      → x ≡ leavesRebuilder st s q (heardStep st y msg len cols read)
   bits-said at f y s q g =
       let e = heard-bits at f 8 (omega arith) .1 in
       let r : range (take (length msg - at) (drop at msg)) 0 (dueLength st) ≡ range msg (8 * at) len = ap₂ (λ (t : List ℕ) (i : ℕ). range t 0 i) (rest-whole at) e ∙ sym (range-rest msg at len (bits-inside at f)) in
       read-said f y s q (g ∙ ap (λ (l : List Bool). leavesRebuilder st s q (stepTaken (stepOf st y (length msg) (bitsAnswer l)))) r)
+
+  pub burst-said : (v : ℕ) → read ≡ IsBurst v → (a : List ℕ) → take cols a ≡ burstSyndromes cols msg → (y s q : List ℕ) {x : RebuilderSaid}
+      → x ≡ leavesRebuilder st s q (stepTaken (stepOf st y (length msg) (burstAnswer (take (burstOf st) a) v)))
+      → x ≡ leavesRebuilder st s q (heardStep st y msg len cols read)
+  burst-said v f a e y s q g =
+      let r : take (burstOf st) a ≡ burstSyndromes cols msg = ap (λ (n : ℕ). take n a) (sym (burst-cols v f)) ∙ e in
+      read-said f y s q (g ∙ ap (λ (l : List ℕ). leavesRebuilder st s q (stepTaken (stepOf st y (length msg) (burstAnswer l v)))) r)
 
   -- ---- in lent buffers
   -- the bits that the call counts its buffers by
@@ -318,6 +359,9 @@ module _ (st : Rebuilder) (msg : List ℕ) (len : ℕ) (read : AnswerRead) (d : 
   syndrome-known : (a v : ℕ) → read ≡ IsSyndrome a v → bitsKnown st (syndromeAnswer a v) ≡ st .n
   syndrome-known a v f = later-known (syndromeAnswer a v) (heard-syndrome a v f 8 (omega arith) .0)
 
+  burst-known : (v : ℕ) → read ≡ IsBurst v → bitsKnown st (burstAnswer (burstSyndromes cols msg) v) ≡ st .n
+  burst-known v f = later-known (burstAnswer (burstSyndromes cols msg) v) (heard-burst v f 8 (omega arith) .0)
+
   bits-known : (at : ℕ) (l : List Bool) → read ≡ IsBits at → bitsKnown st (bitsAnswer l) ≡ st .n
   bits-known at l f = go (heard-bits at f 8 (omega arith) .0 .phases)
     where
@@ -325,24 +369,26 @@ module _ (st : Rebuilder) (msg : List ℕ) (len : ℕ) (read : AnswerRead) (d : 
       go (inl w) = rw (w .phase) refl
       go (inr a) = later-known (bitsAnswer l) (a .0)
 
-  pub hears-short : (y : List ℕ) (r : Capacities) → enoughForAnswer st r read ≡ false → andThen (saidAnswer msg len read) (given st y msg r) ≡ refusal (refusalNumber BufferTooShort)
+  pub hears-short : (y : List ℕ) (r : Capacities) → enoughForAnswer st r read ≡ false → andThen (saidAnswer msg len cols read) (given st y msg r) ≡ refusal (refusalNumber BufferTooShort)
   hears-short y r e = go read refl e
     where
-      go : (x : AnswerRead) → read ≡ x → enoughForAnswer st r x ≡ false → andThen (saidAnswer msg len x) (given st y msg r) ≡ refusal (refusalNumber BufferTooShort)
+      go : (x : AnswerRead) → read ≡ x → enoughForAnswer st r x ≡ false → andThen (saidAnswer msg len cols x) (given st y msg r) ≡ refusal (refusalNumber BufferTooShort)
       go (IsSize n) f e = rw (size-known n f, e) refl
       go (IsHash v) f e = rw (hash-known v f, e) refl
       go (IsSyndrome a v) f e = rw (syndrome-known a v f, e) refl
       go (IsBits at) f e = rw (bits-known at (range msg (8 * at) len) f, e) refl
+      go (IsBurst v) f e = rw (burst-known v f, e) refl
       go (NoAnswer x) f e = absurd (true-false e)
 
-  pub hears-long : (y : List ℕ) (r : Capacities) → enoughForAnswer st r read ≡ true → andThen (saidAnswer msg len read) (given st y msg r) ≡ heardStep st y msg len read
+  pub hears-long : (y : List ℕ) (r : Capacities) → enoughForAnswer st r read ≡ true → andThen (saidAnswer msg len cols read) (given st y msg r) ≡ heardStep st y msg len cols read
   hears-long y r e = go read refl e
     where
-      go : (x : AnswerRead) → read ≡ x → enoughForAnswer st r x ≡ true → andThen (saidAnswer msg len x) (given st y msg r) ≡ heardStep st y msg len x
+      go : (x : AnswerRead) → read ≡ x → enoughForAnswer st r x ≡ true → andThen (saidAnswer msg len cols x) (given st y msg r) ≡ heardStep st y msg len cols x
       go (IsSize n) f e = rw (size-known n f, e) refl
       go (IsHash v) f e = rw (hash-known v f, e) refl
       go (IsSyndrome a v) f e = rw (syndrome-known a v f, e) refl
       go (IsBits at) f e = rw (bits-known at (range msg (8 * at) len) f, e) refl
+      go (IsBurst v) f e = rw (burst-known v f, e) refl
       go (NoAnswer x) f e = refl
 
   pub enough-for : (r : Capacities) → enoughForAnswer st r read ≡ true → {b : AnswerRead} → read ≡ b → enoughForAnswer st r b ≡ true
@@ -359,15 +405,15 @@ pub acting-small : (st : Rebuilder) (size capacity : ℕ) → Acting st size cap
 acting-small st size capacity k = let s = size-most st size capacity k in omega arith
 
 -- ---- the message for the question that waits
-module _ (st : Rebuilder) (msg : List ℕ) (q : Question) (len : ℕ) (kind : Kind) (read : AnswerRead) (ln : len ≡ questionLength q) (kn : kind ≡ questionKind q)
-    (rd : saidAnswer msg len read ≡ readAnswer kind len (st .settings .h) msg) where
-  read-for : saidAnswer msg len read ≡ readAnswer (questionKind q) (questionLength q) (st .settings .h) msg
-  read-for = rd ∙ ap₂ (λ (k : Kind) (l : ℕ). readAnswer k l (st .settings .h) msg) kn ln
+module _ (st : Rebuilder) (msg : List ℕ) (q : Question) (len cols : ℕ) (kind : Kind) (read : AnswerRead) (ln : len ≡ questionLength q) (cn : cols ≡ questionBurst q) (kn : kind ≡ questionKind q)
+    (rd : saidAnswer msg len cols read ≡ readAnswer kind len cols (st .settings .h) msg) where
+  read-for : saidAnswer msg len cols read ≡ readAnswer (questionKind q) (questionLength q) (questionBurst q) (st .settings .h) msg
+  read-for = rd ∙ ap₂ (λ (k : Kind) (l : ℕ). readAnswer k l cols (st .settings .h) msg) kn ln ∙ ap (λ (c : ℕ). readAnswer (questionKind q) (questionLength q) c (st .settings .h) msg) cn
 
-  pub due : sound st ≡ true → planned st ≡ some q → length (st .pieces) ≡ 32 → Bytes msg → BitsThere msg len read → Due st msg len read
-  due s p a b t = record { sound-now = s; array = a; bytes = b; question = q; asked = p; asked-length = ln; read-is = read-for; bits-there = t }
+  pub due : sound st ≡ true → planned st ≡ some q → length (st .pieces) ≡ 32 → Bytes msg → BitsThere msg len read → Due st msg len cols read
+  due s p a b t = record { sound-now = s; array = a; bytes = b; question = q; asked = p; asked-length = ln; asked-burst = cn; read-is = read-for; bits-there = t }
 
-  pub awaits-hears : (y : List ℕ) (r : Capacities) → awaits st y msg r (some q) ≡ andThen (saidAnswer msg len read) (given st y msg r)
+  pub awaits-hears : (y : List ℕ) (r : Capacities) → awaits st y msg r (some q) ≡ andThen (saidAnswer msg len cols read) (given st y msg r)
   awaits-hears y r = ap (λ (z : Result Answer). andThen z (given st y msg r)) (sym read-for)
 
 pub taken-said : (st : Rebuilder) (s q : List ℕ) {a b : Result Taken} {x : RebuilderSaid} → a ≡ b → x ≡ leavesRebuilder st s q b → x ≡ leavesRebuilder st s q a

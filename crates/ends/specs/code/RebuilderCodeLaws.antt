@@ -6,7 +6,7 @@ use mathlib.Core.List.{List, [], _∷_}
 use mathlib.Core.Option.{Option, none, some}
 use Prim.Native.Nat.{ℕ, _+_, _-_, _*_, max, _≤_, _<_}
 use native.Mathlib.Omega.{arith}
-use lib.ListN.{length}
+use lib.ListN.{length, take}
 use lib.Dec.{lit≤}
 use borrow.Author.Tests.{eq-eqb, ne-eqb}
 use Rattle.strings.specs.Results.{Result, value}
@@ -23,24 +23,24 @@ use Rattle.messages.specs.declared.WriteResult.{WriteResult}
 use Rattle.messages.specs.declared.WriteResult.the-variants.{Written, TooShort}
 use Rattle.messages.specs.Questions.{questionBytes}
 use Rattle.messages.specs.laws.QuestionLaws.{InRange, question-size, question-some}
-use Rattle.messages.specs.Answers.{Answer, hashAnswer, syndromeAnswer, bitsAnswer}
+use Rattle.messages.specs.Answers.{Answer, hashAnswer, syndromeAnswer, bitsAnswer, burstAnswer}
 use Rattle.messages.specs.Writing.{putFront, saidWrite}
 use Rattle.messages.specs.laws.WritingLaws.{wrote-is}
 use Rattle.ends.specs.declared.How.{How}
-use Rattle.ends.specs.declared.How.the-variants.{ByHash, ByAnchor, ByBits}
+use Rattle.ends.specs.declared.How.the-variants.{ByHash, ByAnchor, ByBits, ByBurst}
 use Rattle.ends.specs.declared.Piece.{Piece}
 use Rattle.ends.specs.declared.Rebuilder.{Rebuilder}
 use Rattle.ends.specs.declared.SheetChange.{SheetChange}
 use Rattle.ends.specs.declared.SheetChange.the-variants.{NoRow, AddRow}
 use Rattle.ends.specs.laws.Moves.{moved-effect}
 use Rattle.ends.specs.Segments.{placed, laterStage, settles, stays, splits, effect, trialOf, retry, hashOf, row, howNumber, afterAnchor, asks, offset, Effect}
-use Rattle.ends.specs.laws.Right.{Fit, Long, offset-fits}
+use Rattle.ends.specs.laws.Right.{Fit, Long, offset-fits, run-apart}
 use Rattle.ends.specs.States.{top, popped, restaged, retried, splitAt, planned}
 use Rattle.ends.specs.Soundness.{sound, asksBefore}
 use Rattle.ends.specs.laws.SoundParts.{stage-long, Framed, sound-is, PiecesIs, pieces-is, phase-pieces, TopIs, top-is, ask-inside, PhaseOf, isOpening, isPieces, isWhole, phase-of}
 use Rattle.ends.specs.laws.SoundSteps.{tallied-sound, effect-tally}
 use Rattle.ends.specs.laws.Delivery.{asks-not-open, inside-range}
-use Rattle.ends.specs.Anchors.{place, Best, fits as anchorFits, placeDistance}
+use Rattle.ends.specs.Anchors.{place, Best, fits as anchorFits, placeDistance, distance}
 use Rattle.ends.specs.laws.AnchorLaws.{place-best}
 use Rattle.ends.specs.laws.Steps.{step-pieces}
 use Rattle.ends.specs.RebuilderCall.{tallied, Step, effectStep, stepOf, stringAfter, writtenQuestion}
@@ -56,12 +56,13 @@ use Rattle.ends.specs.declared.rebuilding.RebuilderOut.{RebuilderOut}
 use Rattle.ends.specs.code.StateCode.{Usable, Holds, Stages, Retries, Splits, Counts, Offsets, planOf}
 use Rattle.ends.specs.code.SoundLaws.{sound-counts}
 use Rattle.ends.specs.RebuilderOutcome.{callSaid, nextSize, RebuilderSaid, saidRebuilder, leavesRebuilder}
-use Rattle.ends.specs.code.RebuilderParts.{nextAnswer, OutIs, Acting, Splitting, stepTaken, Retriable, RepairDue, putsIn, takesOut, repairHow}
-use Rattle.ends.specs.declared.Stage.the-variants.{Hashing, PuttingIn, TakingOut, Anchor, AllBits}
+use Rattle.ends.specs.code.RebuilderParts.{nextAnswer, OutIs, Acting, Splitting, stepTaken, Retriable, RepairDue, putsIn, takesOut, repairHow, BurstDue, burstOf}
+use Rattle.ends.specs.declared.Stage.the-variants.{Hashing, PuttingIn, TakingOut, Anchor, AllBits, Columns}
 use Rattle.ends.specs.declared.Attempt.{Attempt}
 use Rattle.ends.specs.declared.Attempt.the-variants.{First, Second, Third}
 use Rattle.ends.specs.declared.Phase.the-variants.{AtPieces}
 use Rattle.ends.specs.declared.Stage.{Stage}
+use Rattle.codes.specs.Columns.{RunApart, repairRun}
 
 -- ---- the question that a sound state writes
 pub question-range : (s : Rebuilder) (q : Question) → sound s ≡ true → planned s ≡ some q → InRange (max 1 (s .n)) q × (s .n ≤ maxBits)
@@ -76,7 +77,7 @@ question-range s q e k = let f = sound-is s e in go (f .0) (phase-of s q (f .1) 
         let ins = ask-inside s (f .limits) t in
         let a = t .some in let b = t .inX in
         let e : max 1 (s .n) ≡ s .n = omega arith in
-        (rw (← d) (rw e (inside-range (s .n) (asks (s .settings) (top s .x) (top s .p) (s .stage)) (asks-not-open (s .settings) (top s .x) (top s .p) (s .stage)) ins)), f .size)
+        (rw (← d) (rw e (inside-range (s .n) (asks (s .settings) (top s .x) (top s .p) (top s .q) (s .stage)) (asks-not-open (s .settings) (top s .x) (top s .p) (top s .q) (s .stage)) ins)), f .size)
     go f (isWhole p i d) =
         let t = top-is s (i .stack) (i .some) in
         let a = t .some in let b = t .inX in
@@ -134,6 +135,7 @@ retriable-low : (t : Stage) → Retriable t → asksBefore t < 4
 retriable-low Hashing h = lit≤ tt
 retriable-low PuttingIn h = lit≤ tt
 retriable-low TakingOut h = lit≤ tt
+retriable-low Columns h = lit≤ tt
 retriable-low (Anchor First) h = lit≤ tt
 retriable-low (Anchor Second) h = lit≤ tt
 retriable-low (Anchor Third) h = lit≤ tt
@@ -327,6 +329,17 @@ module _ (st : Rebuilder) (size capacity : ℕ) (k : Acting st size capacity) {t
   apart (putsIn e h) = rw tp (inl h)
   apart (takesOut e h) = rw tp (inr h)
 
+  -- a burst's is to a length that many bits apart
+  pub burst-apart : (b : ℕ) → b ≡ distance (t .p) (t .q) → RunApart b (t .q) (t .p)
+  burst-apart b e = subst (λ (n : ℕ). RunApart n (t .q) (t .p)) (sym e) (run-apart (t .p) (t .q))
+
+  pub burst-bounds : (b : ℕ) → b ≡ distance (t .p) (t .q) → BurstDue st → (2 ≤ b) × (b ≤ 32)
+  burst-bounds b e due =
+      let f : b ≡ burstOf st = e ∙ ap (λ (z : Piece). distance (z .p) (z .q)) tp in
+      let least = due .least in
+      let most = due .most in
+      (omega arith, omega arith)
+
   pub narrow : st .settings .h ≤ 32
   narrow = framed st size capacity k .limits .h-most
 
@@ -368,6 +381,14 @@ module _ (st : Rebuilder) (y : List ℕ) (size : ℕ) (ph : st .phase ≡ AtPiec
       let l = len in
       at-stage (syndromeAnswer a v) TakingOut e ∙ rw (ne-eqb (top st .q + 1) (top st .p) (λ z. omega arith), repair-take-out (top st .p) a copy (λ z. omega arith)) refl
 
+  -- a trial of the columns' repair
+  pub step-burst : (ss : List ℕ) (v : ℕ) → st .stage ≡ Columns
+      → stepOf st y size (burstAnswer ss v) ≡ effectStep st size (trialOf (st .settings) v ByBurst (repairRun (burstOf st) (top st .p) ss copy) (retry (st .settings) (top st .p) copy))
+  unfolding effect
+  step-burst ss v e =
+      at-stage (burstAnswer ss v) Columns e
+      ∙ ap (λ (n : ℕ). effectStep st size (trialOf (st .settings) v ByBurst (repairRun (distance (top st .p) n) (top st .p) ss copy) (retry (st .settings) (top st .p) copy))) len
+
   pub step-bits : (l : List Bool) → st .stage ≡ AllBits → stepOf st y size (bitsAnswer l) ≡ effectStep st size (settles ByBits l)
   unfolding effect
   step-bits l e = at-stage (bitsAnswer l) AllBits e
@@ -389,6 +410,12 @@ module _ (st : Rebuilder) (y : List ℕ) {t : Piece} (tp : t ≡ top st) (s s′
   pub repair-tried : (a : ℕ) → record { settled = settled; buffer = s′ } ≡ triedAt s (t .x) (agreeing h key v (repairTo (t .p) a (range y (t .y) (t .q))))
       → record { settled = settled; buffer = s′ } ≡ triedAt s (top st .x) (agreeing h key v (repairTo (top st .p) a (range y (top st .y) (top st .q))))
   repair-tried a f = f ∙ ap (λ (z : Piece). triedAt s (z .x) (agreeing h key v (repairTo (z .p) a (range y (z .y) (z .q))))) tp
+
+  pub burst-tried : (b : ℕ) (a : List ℕ) → b ≡ distance (t .p) (t .q) → record { settled = settled; buffer = s′ } ≡ triedAt s (t .x) (agreeing h key v (repairRun b (t .p) (take b a) (range y (t .y) (t .q))))
+      → record { settled = settled; buffer = s′ } ≡ triedAt s (top st .x) (agreeing h key v (repairRun (burstOf st) (top st .p) (take (burstOf st) a) (range y (top st .y) (top st .q))))
+  burst-tried b a e f =
+      f ∙ ap (λ (n : ℕ). triedAt s (t .x) (agreeing h key v (repairRun n (t .p) (take n a) (range y (t .y) (t .q))))) e
+      ∙ ap (λ (z : Piece). triedAt s (z .x) (agreeing h key v (repairRun (distance (z .p) (z .q)) (z .p) (take (distance (z .p) (z .q)) a) (range y (z .y) (z .q))))) tp
 
 -- the row's how is that of the repair
 pub repaired-out : (st : Rebuilder) {t : Piece} (tp : t ≡ top st) {h : How} → h ≡ repairHow (t .p) (t .q) → {r : RebuilderOut} {s : Rebuilder} {q q′ : List ℕ}

@@ -16,8 +16,8 @@ use Rattle.ends.specs.Segments.{offset}
 use Rattle.strings.specs.declared.Refusal.{Refusal}
 use Rattle.messages.specs.declared.Question.{Question}
 use Rattle.messages.specs.declared.AnswerRead.{AnswerRead}
-use Rattle.messages.specs.declared.AnswerRead.the-variants.{IsSize, IsHash, IsSyndrome, IsBits, NoAnswer}
-use Rattle.messages.specs.Questions.{questionKind, questionLength}
+use Rattle.messages.specs.declared.AnswerRead.the-variants.{IsSize, IsHash, IsSyndrome, IsBits, NoAnswer, IsBurst}
+use Rattle.messages.specs.Questions.{questionKind, questionLength, questionBurst}
 use Rattle.messages.specs.Answers.{Answer, readAnswer, saidAnswer, BitsThere}
 use Rattle.ends.specs.declared.Rebuilder.{Rebuilder}
 use Rattle.ends.specs.declared.SheetChange.{SheetChange}
@@ -31,10 +31,11 @@ use Rattle.ends.specs.declared.rebuilding.RebuilderAnswer.{RebuilderAnsw
 use Rattle.ends.specs.declared.rebuilding.RebuilderAnswer.the-variants.{Asks, Finished, Refused}
 use Rattle.ends.specs.declared.rebuilding.RebuilderOut.{RebuilderOut}
 use Rattle.ends.specs.declared.Stage.{Stage}
-use Rattle.ends.specs.declared.Stage.the-variants.{Hashing, PuttingIn, TakingOut, Anchor, AllBits}
+use Rattle.ends.specs.declared.Stage.the-variants.{Hashing, PuttingIn, TakingOut, Anchor, AllBits, Columns}
 use Rattle.ends.specs.declared.Attempt.{Attempt}
 use Rattle.ends.specs.declared.Phase.{Phase}
 use Rattle.ends.specs.declared.Phase.the-variants.{AtOpening, AtPieces, AtWhole}
+use Rattle.ends.specs.Anchors.{distance}
 
 -- ---- the parts of the call
 -- the next question's length, or the finish
@@ -85,6 +86,7 @@ abbrev pub Retriable : Stage → Type 0
 Retriable Hashing = Unit {0}
 Retriable PuttingIn = Unit {0}
 Retriable TakingOut = Unit {0}
+Retriable Columns = Unit {0}
 Retriable (Anchor i) = Unit {0}
 Retriable AllBits = ⊥
 
@@ -93,11 +95,21 @@ pub data RepairDue (st : Rebuilder) : Type 0 where
   putsIn : st .stage ≡ PuttingIn → top st .q + 1 ≡ top st .p → RepairDue st
   takesOut : st .stage ≡ TakingOut → top st .q ≡ top st .p + 1 → RepairDue st
 
+-- 02, CR 1: by how many bits the leftmost piece and its copy differ, where its columns are repaired
+abbrev pub burstOf : Rebuilder → ℕ
+burstOf st = distance (top st .p) (top st .q)
+
+pub record BurstDue (st : Rebuilder) : Type 0 where
+  pub stage : st .stage ≡ Columns
+  pub least : 2 ≤ burstOf st
+  pub most : burstOf st ≤ 32
+
 -- step 4
 abbrev pub AsksBits : Stage → Type 0
 AsksBits Hashing = ⊥
 AsksBits PuttingIn = ⊥
 AsksBits TakingOut = ⊥
+AsksBits Columns = ⊥
 AsksBits (Anchor i) = Unit {0}
 AsksBits AllBits = Unit {0}
 
@@ -106,6 +118,7 @@ abbrev pub bitsOfStage : Rebuilder → Stage → ℕ
 bitsOfStage st Hashing = 0
 bitsOfStage st PuttingIn = 0
 bitsOfStage st TakingOut = 0
+bitsOfStage st Columns = 0
 bitsOfStage st (Anchor i) = st .settings .m
 bitsOfStage st AllBits = top st .p
 
@@ -143,14 +156,15 @@ abbrev pub dueLength : Rebuilder → ℕ
 dueLength st = dueAt (st .phase) st
 
 -- the question that waits, and what was read from the message as its answer
-pub record Due (st : Rebuilder) (msg : List ℕ) (len : ℕ) (read : AnswerRead) : Type 0 where
+pub record Due (st : Rebuilder) (msg : List ℕ) (len b : ℕ) (read : AnswerRead) : Type 0 where
   pub sound-now : sound st ≡ true
   pub array : length (st .pieces) ≡ 32
   pub bytes : Bytes msg
   pub question : Question
   pub asked : planned st ≡ some question
   pub asked-length : len ≡ questionLength question
-  pub read-is : saidAnswer msg len read ≡ readAnswer (questionKind question) (questionLength question) (st .settings .h) msg
+  pub asked-burst : b ≡ questionBurst question
+  pub read-is : saidAnswer msg len b read ≡ readAnswer (questionKind question) (questionLength question) (questionBurst question) (st .settings .h) msg
   pub bits-there : BitsThere msg len read
 
 -- whether the lent buffers are enough for the answer; a message that is no answer is turned down for that
@@ -159,14 +173,15 @@ enoughForAnswer st capacities (IsSize n) = enoughFor st n capacities
 enoughForAnswer st capacities (IsHash v) = enoughFor st (st .n) capacities
 enoughForAnswer st capacities (IsSyndrome a v) = enoughFor st (st .n) capacities
 enoughForAnswer st capacities (IsBits at) = enoughFor st (st .n) capacities
+enoughForAnswer st capacities (IsBurst v) = enoughFor st (st .n) capacities
 enoughForAnswer st capacities (NoAnswer e) = true
 
 -- what comes of it in buffers that are long enough
-abbrev pub heardStep : Rebuilder → (y msg : List ℕ) → (len : ℕ) → AnswerRead → Result Taken
-heardStep st y msg len read = andThen (saidAnswer msg len read) (λ a. stepTaken (stepOf st y (length msg) a))
+abbrev pub heardStep : Rebuilder → (y msg : List ℕ) → (len b : ℕ) → AnswerRead → Result Taken
+heardStep st y msg len b read = andThen (saidAnswer msg len b read) (λ a. stepTaken (stepOf st y (length msg) a))
 
-abbrev pub heardOutcome : Rebuilder → (y msg : List ℕ) (len : ℕ) → AnswerRead → (string question : List ℕ) → RebuilderSaid
-heardOutcome st y msg len read string question = leavesRebuilder st string question (heardStep st y msg len read)
+abbrev pub heardOutcome : Rebuilder → (y msg : List ℕ) (len b : ℕ) → AnswerRead → (string question : List ℕ) → RebuilderSaid
+heardOutcome st y msg len b read string question = leavesRebuilder st string question (heardStep st y msg len b read)
 
 -- what a message for the question q that waits leaves
 abbrev pub askedOutcome : Rebuilder → (y msg : List ℕ) (rows : ℕ) → Question → (string question : List ℕ) → RebuilderSaid

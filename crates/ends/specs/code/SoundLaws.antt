@@ -6,6 +6,7 @@ use native.Mathlib.Nat.{div-le-self, max-le}
 use native.Mathlib.Omega.{arith}
 use lib.Dec.{eqb}
 use Rattle.strings.specs.laws.Tests.{by-test}
+use Rattle.messages.specs.Answers.{longestNumbers}
 use Rattle.ends.specs.declared.Rebuilder.{Rebuilder}
 use Rattle.ends.specs.Runs.{full, longestAnswer}
 use Rattle.ends.specs.States.{top}
@@ -25,7 +26,7 @@ record CountFacts (st : Rebuilder) : Type 0 where
   used : st .rows ≤ 200000
 
 full-most : (n : ℕ) → n ≤ maxBits → longestAnswer n ≤ 8193
-full-most n h = max-le {a = 9} {b = full n} (omega arith) (omega arith)
+full-most n h = max-le {a = longestNumbers} {b = full n} (omega arith) (omega arith)
 
 module _ (st : Rebuilder) (f : Framed st) where
   most-counted : mostCounted st ≤ 40000

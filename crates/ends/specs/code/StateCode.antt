@@ -1,6 +1,6 @@
 -- What the functions of src/state.rt require, and laws for their proofs.
 use mathlib.Core.Path.{_≡_, refl, sym, ap, _∙_}
-use mathlib.Core.Bool.{cond, _||_}
+use mathlib.Core.Bool.{cond, _||_, true, false}
 use mathlib.Core.Option.{Option, none, some}
 use Prim.Native.Nat.{ℕ, _+_, _-_, _*_, _≤_, _<_}
 use native.Mathlib.Nat.{le-refl}
@@ -16,12 +16,12 @@ use Rattle.ends.specs.States.{top, stacked, popped, pushed, restaged, sp
 use Rattle.ends.specs.declared.state.Plan.{Plan}
 use Rattle.ends.specs.declared.state.Plan.the-variants.{Ask, Finished}
 use Rattle.ends.specs.declared.Stage.{Stage}
-use Rattle.ends.specs.declared.Stage.the-variants.{Anchor, Hashing, PuttingIn, TakingOut}
+use Rattle.ends.specs.declared.Stage.the-variants.{Anchor, Hashing, PuttingIn, TakingOut, Columns}
 use Rattle.ends.specs.declared.Attempt.{Attempt}
 use Rattle.ends.specs.declared.Phase.the-variants.{AtPieces}
 use Rattle.strings.specs.Bits.{maxBits}
 use Rattle.ends.specs.declared.Attempt.the-variants.{First, Second, Third}
-use Rattle.ends.specs.Segments.{offset, firstStage, laterStage}
+use Rattle.ends.specs.Segments.{offset, firstStage, laterStage, isBurst}
 use borrow.Author.Tests.{eq-eqb, ne-eqb}
 use Rattle.ends.specs.declared.Phase.{Phase}
 
@@ -132,9 +132,13 @@ module _ (S : Settings) (p q a b : ℕ) (e : a ≡ p) (f : b ≡ q) where
   unfolding firstStage
   stage-more h = rw (ne-eqb q p (λ z. omega arith), ne-eqb (q + 1) p (λ z. omega arith), eq-eqb q (p + 1) (omega arith)) refl
 
-  pub stage-far : (b ≡ a → ⊥) → (b + 1 ≡ a → ⊥) → (b ≡ a + 1 → ⊥) → {t : Stage} → t ≡ laterStage S p q → t ≡ firstStage S p q
+  pub stage-columns : (b ≡ a → ⊥) → (b + 1 ≡ a → ⊥) → (b ≡ a + 1 → ⊥) → isBurst p q ≡ true → Columns ≡ firstStage S p q
   unfolding firstStage
-  stage-far h k l d = rw (ne-eqb q p (λ z. h (omega arith)), ne-eqb (q + 1) p (λ z. k (omega arith)), ne-eqb q (p + 1) (λ z. l (omega arith))) d
+  stage-columns h k l i = rw (ne-eqb q p (λ z. h (omega arith)), ne-eqb (q + 1) p (λ z. k (omega arith)), ne-eqb q (p + 1) (λ z. l (omega arith)), i) refl
+
+  pub stage-far : (b ≡ a → ⊥) → (b + 1 ≡ a → ⊥) → (b ≡ a + 1 → ⊥) → isBurst p q ≡ false → {t : Stage} → t ≡ laterStage S p q → t ≡ firstStage S p q
+  unfolding firstStage
+  stage-far h k l i d = rw (ne-eqb q p (λ z. h (omega arith)), ne-eqb (q + 1) p (λ z. k (omega arith)), ne-eqb q (p + 1) (λ z. l (omega arith)), i) d
 
 -- ---- the question, by what is awaited
 pub plan-at : (st : Rebuilder) (ph : Phase) → st .phase ≡ ph → {r : Plan} → r ≡ planOf (plannedAt ph st) → r ≡ planOf (planned st)

@@ -8,19 +8,20 @@ use Rattle.strings.specs.Results.{Result, refusal, value}
 use Rattle.strings.specs.Bits.{bitAt, range, bytesFor, flipped, setBit, writeBits, pack, cleared, sameBits}
 use Rattle.strings.specs.StringRule.{noneSet, stringRule}
 use Rattle.codes.specs.Syndrome.{syndrome}
-use Rattle.codes.specs.Repair.{insertions, deletions, withSyndrome, putIn, takeOut}
+use Rattle.codes.specs.Repair.{insertions, deletions, withSyndrome, putIn, takeOut, repairTo}
+use Rattle.codes.specs.Columns.{columns, syndromes, repairRun}
 use Rattle.codes.specs.Hash.{xorLeft, xorRight, xorshift, hashFrom, hash}
-use Rattle.messages.specs.Numbers.{groups, number, nextByte, numberAt, twoAt, threeAt}
+use Rattle.messages.specs.Numbers.{groups, number, nextByte, numberAt, twoAt, threeAt, allNumbers, numbersAt}
 use Rattle.messages.specs.Kinds.{kindAt}
-use Rattle.messages.specs.Questions.{questionBytes, openingAt, rangeAt, fieldsAt}
-use Rattle.messages.specs.Answers.{answerBytes, sizeAt, hashAt, syndromeAt, bitsAt, answerFields, readAnswer}
+use Rattle.messages.specs.Questions.{questionBytes, openingAt, rangeAt, burstRangeAt, fieldsAt}
+use Rattle.messages.specs.Answers.{answerBytes, sizeAt, hashAt, syndromeAt, bitsAt, withinColumns, burstAt, answerFields, readAnswer}
 use Rattle.strings.specs.declared.settings.Settings.{Settings}
 use Rattle.ends.specs.declared.Row.{Row}
 use Rattle.ends.specs.declared.Holder.{Holder}
 use Rattle.ends.specs.declared.Rebuilder.{Rebuilder}
 use Rattle.strings.specs.SettingLimits.{houseSettings, withinLimits}
 use Rattle.ends.specs.Anchors.{isqrt, place}
-use Rattle.ends.specs.Segments.{hashOf, laterStage, effect, firstStage}
+use Rattle.ends.specs.Segments.{hashOf, laterStage, isBurst, effect, firstStage}
 use Rattle.ends.specs.States.{noPiece, top, popped, pushed, restaged, retried, splitAt, planned}
 use Rattle.ends.specs.Soundness.{holderSound, isBlank, blankFrom, pieceFits, inOrder, rowsLeft, asksLeft, stageFits, stackSound, topFits, openingSound, piecesSound, wholeSound, sound}
 use Rattle.ends.specs.HolderCall.{freshHolder, sameBitCount, sends, holderCall, Reply}
@@ -145,35 +146,50 @@ pub record Demo : Type 0 where
       ≡ asks opening ∷ answers (0x00 ∷ 0x09 ∷ [])
       ∷ asks (0x01 ∷ 0x00 ∷ 0x09 ∷ []) ∷ answers (0x01 ∷ 0x00 ∷ [])
       ∷ row 0 9 1 ∷ rebuilt (replicate 9 false) 1 2 ∷ []
-  -- p 64, q 66: the anchor at 28 is placed and leaves a left and a right piece
+  -- 02, CR 1: two bits lost are asked for in two columns, each repaired by one bit; three bits gained in three
+  pub burst-lost : demonstration (upTo 100) (0xb5 ∷ []) 8 (0xd4 ∷ []) 6
+      ≡ asks opening ∷ answers (0x00 ∷ 0x08 ∷ [])
+      ∷ asks (0x04 ∷ 0x00 ∷ 0x08 ∷ 0x02 ∷ []) ∷ answers (0x04 ∷ 0x03 ∷ 0x04 ∷ 0xc9 ∷ 0x01 ∷ [])
+      ∷ row 0 8 6 ∷ rebuilt (range (0xb5 ∷ []) 0 8) 1 5 ∷ []
+  pub burst-gained : demonstration (upTo 100) (0xb5 ∷ []) 8 (0xb6 ∷ 0xa0 ∷ []) 11
+      ≡ asks opening ∷ answers (0x00 ∷ 0x08 ∷ [])
+      ∷ asks (0x04 ∷ 0x00 ∷ 0x08 ∷ 0x03 ∷ []) ∷ answers (0x04 ∷ 0x03 ∷ 0x03 ∷ 0x00 ∷ 0xc9 ∷ 0x01 ∷ [])
+      ∷ row 0 8 6 ∷ rebuilt (range (0xb5 ∷ []) 0 8) 1 6 ∷ []
+  -- p 64, q 66, no run of 2: the columns' repair does not have the hash, and step 4 follows. The anchor at 28 is placed and leaves a left and
+  -- a right piece, of which the right one is asked for in columns again
   pub anchor : demonstration (upTo 100) x64 64 y66 66
       ≡ asks opening ∷ answers (0x00 ∷ 0x40 ∷ [])
+      ∷ asks (0x04 ∷ 0x00 ∷ 0x40 ∷ 0x02 ∷ []) ∷ answers (0x04 ∷ 0x0c ∷ 0x0a ∷ 0xcc ∷ 0x01 ∷ [])
       ∷ asks (0x03 ∷ 0x1c ∷ 0x08 ∷ []) ∷ answers (0x03 ∷ 0xa2 ∷ [])
       ∷ asks (0x01 ∷ 0x00 ∷ 0x1c ∷ []) ∷ answers (0x01 ∷ 0x30 ∷ [])
       ∷ asks (0x03 ∷ 0x00 ∷ 0x1c ∷ []) ∷ answers (0x03 ∷ 0x33 ∷ 0x38 ∷ 0x85 ∷ 0xf0 ∷ [])
+      ∷ asks (0x04 ∷ 0x24 ∷ 0x1c ∷ 0x02 ∷ []) ∷ answers (0x04 ∷ 0x0d ∷ 0x08 ∷ 0xbb ∷ 0x01 ∷ [])
       ∷ asks (0x03 ∷ 0x24 ∷ 0x1c ∷ []) ∷ answers (0x03 ∷ 0xfe ∷ 0xa9 ∷ 0x9a ∷ 0x90 ∷ [])
-      ∷ row 28 8 4 ∷ row 0 28 5 ∷ row 36 28 5 ∷ rebuilt (range x64 0 64) 4 14 ∷ []
-  -- nowhere to place the anchors at 28, 36, 20: the whole piece
-  pub three-anchors : demonstration (upTo 100) x64 64 (replicate 9 0x00) 66
+      ∷ row 28 8 4 ∷ row 0 28 5 ∷ row 36 28 5 ∷ rebuilt (range x64 0 64) 6 24 ∷ []
+  -- nowhere to place the anchors at 28, 36, 20: the whole piece. Lengths 34 apart are not asked for in columns
+  pub three-anchors : demonstration (upTo 100) x64 64 (replicate 13 0x00) 98
       ≡ asks opening ∷ answers (0x00 ∷ 0x40 ∷ [])
       ∷ asks (0x03 ∷ 0x1c ∷ 0x08 ∷ []) ∷ answers (0x03 ∷ 0xa2 ∷ [])
       ∷ asks (0x03 ∷ 0x24 ∷ 0x08 ∷ []) ∷ answers (0x03 ∷ 0xfe ∷ [])
       ∷ asks (0x03 ∷ 0x14 ∷ 0x08 ∷ []) ∷ answers (0x03 ∷ 0x5f ∷ [])
       ∷ asks (0x03 ∷ 0x00 ∷ 0x40 ∷ []) ∷ answers (0x03 ∷ 0x33 ∷ 0x38 ∷ 0x85 ∷ 0xfa ∷ 0x2f ∷ 0xea ∷ 0x99 ∷ 0xa9 ∷ [])
       ∷ row 0 64 5 ∷ rebuilt (range x64 0 64) 4 15 ∷ []
-  -- the same as `anchor` with ceiling 2: the anchor's 2 bytes do not exceed it, the left piece's hash does, and bits 0, 64 replaces the anchor's row
-  pub at-ceiling : demonstration (upTo 2) x64 64 y66 66
+  -- the same as `anchor` with ceiling 7: the columns' 5 bytes and the anchor's 2 do not exceed it, the left piece's hash does, and bits 0, 64
+  -- replaces the anchor's row
+  pub at-ceiling : demonstration (upTo 7) x64 64 y66 66
       ≡ asks opening ∷ answers (0x00 ∷ 0x40 ∷ [])
+      ∷ asks (0x04 ∷ 0x00 ∷ 0x40 ∷ 0x02 ∷ []) ∷ answers (0x04 ∷ 0x0c ∷ 0x0a ∷ 0xcc ∷ 0x01 ∷ [])
       ∷ asks (0x03 ∷ 0x1c ∷ 0x08 ∷ []) ∷ answers (0x03 ∷ 0xa2 ∷ [])
       ∷ asks (0x01 ∷ 0x00 ∷ 0x1c ∷ []) ∷ answers (0x01 ∷ 0x30 ∷ [])
       ∷ asks (0x03 ∷ 0x00 ∷ 0x40 ∷ []) ∷ answers (0x03 ∷ 0x33 ∷ 0x38 ∷ 0x85 ∷ 0xfa ∷ 0x2f ∷ 0xea ∷ 0x99 ∷ 0xa9 ∷ [])
-      ∷ row 0 64 5 ∷ rebuilt (range x64 0 64) 3 13 ∷ []
-  -- ceiling 1: the anchor's 2 bytes exceed it
-  pub past-ceiling : demonstration (upTo 1) x64 64 y66 66
+      ∷ row 0 64 5 ∷ rebuilt (range x64 0 64) 4 18 ∷ []
+  -- ceiling 6: the anchor's 2 bytes exceed it
+  pub past-ceiling : demonstration (upTo 6) x64 64 y66 66
       ≡ asks opening ∷ answers (0x00 ∷ 0x40 ∷ [])
+      ∷ asks (0x04 ∷ 0x00 ∷ 0x40 ∷ 0x02 ∷ []) ∷ answers (0x04 ∷ 0x0c ∷ 0x0a ∷ 0xcc ∷ 0x01 ∷ [])
       ∷ asks (0x03 ∷ 0x1c ∷ 0x08 ∷ []) ∷ answers (0x03 ∷ 0xa2 ∷ [])
       ∷ asks (0x03 ∷ 0x00 ∷ 0x40 ∷ []) ∷ answers (0x03 ∷ 0x33 ∷ 0x38 ∷ 0x85 ∷ 0xfa ∷ 0x2f ∷ 0xea ∷ 0x99 ∷ 0xa9 ∷ [])
-      ∷ row 0 64 5 ∷ rebuilt (range x64 0 64) 2 11 ∷ []
+      ∷ row 0 64 5 ∷ rebuilt (range x64 0 64) 3 16 ∷ []
   -- 01's own start
   pub started : rebuilderStart (upTo 100) (0xa0 ∷ []) 3 8 ≡ starts (freshRebuilder (upTo 100) 3) opening
   -- and its calls from there on. The opening sent twice and a message that ends inside its hash are turned down and change nothing;
@@ -191,5 +207,5 @@ pub record Demo : Type 0 where
       }
 
 pub demo : Demo
-unfolding bitAt range flipped setBit writeBits pack cleared sameBits noneSet stringRule syndrome insertions deletions withSyndrome putIn takeOut xorLeft xorRight xorshift hashFrom hash groups number nextByte numberAt twoAt threeAt kindAt questionBytes openingAt rangeAt fieldsAt answerBytes sizeAt hashAt syndromeAt bitsAt answerFields readAnswer withinLimits isqrt place hashOf laterStage effect firstStage top popped pushed restaged retried splitAt planned holderSound isBlank blankFrom pieceFits inOrder rowsLeft asksLeft stageFits topFits stackSound openingSound piecesSound wholeSound sound sameBitCount sends holderCall rebuilderStart tallied effectStep openingStep wholeStep stepOf rebuilderCall
-demo = record { example = refl; house = refl; empty = refl; no-take-out = refl; collision = refl; anchor = refl; three-anchors = refl; at-ceiling = refl; past-ceiling = refl; started = refl; all-calls = refl }
+unfolding bitAt range flipped setBit writeBits pack cleared sameBits noneSet stringRule syndrome insertions deletions withSyndrome putIn takeOut repairTo columns syndromes repairRun xorLeft xorRight xorshift hashFrom hash groups number nextByte numberAt twoAt threeAt allNumbers numbersAt kindAt questionBytes openingAt rangeAt burstRangeAt fieldsAt answerBytes sizeAt hashAt syndromeAt bitsAt withinColumns burstAt answerFields readAnswer withinLimits isqrt place hashOf laterStage isBurst effect firstStage top popped pushed restaged retried splitAt planned holderSound isBlank blankFrom pieceFits inOrder rowsLeft asksLeft stageFits topFits stackSound openingSound piecesSound wholeSound sound sameBitCount sends holderCall rebuilderStart tallied effectStep openingStep wholeStep stepOf rebuilderCall
+demo = record { example = refl; house = refl; empty = refl; no-take-out = refl; collision = refl; burst-lost = refl; burst-gained = refl; anchor = refl; three-anchors = refl; at-ceiling = refl; past-ceiling = refl; started = refl; all-calls = refl }

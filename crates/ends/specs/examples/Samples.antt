@@ -10,12 +10,13 @@ use Rattle.strings.specs.Bits.{bitAt, range, flipped, setBit, writeBits, pack, 
 use Rattle.strings.specs.StringRule.{noneSet, stringRule}
 use Rattle.codes.specs.Syndrome.{syndrome}
 use Rattle.codes.specs.Repair.{insertions, withSyndrome, putIn}
+use Rattle.codes.specs.Columns.{columns, syndromes}
 use Rattle.codes.specs.Hash.{xorLeft, xorRight, xorshift, hashFrom, hash}
-use Rattle.messages.specs.Numbers.{groups, number, nextByte, numberAt, twoAt, threeAt}
+use Rattle.messages.specs.Numbers.{groups, number, nextByte, numberAt, twoAt, threeAt, allNumbers, numbersAt}
 use Rattle.messages.specs.declared.Question.the-variants.{AskBits}
 use Rattle.messages.specs.Kinds.{kindAt}
-use Rattle.messages.specs.Questions.{openingAt, rangeAt, fieldsAt}
-use Rattle.messages.specs.Answers.{hashAnswer, syndromeAnswer, bitsAnswer, answerBytes, sizeAt, syndromeAt, bitsAt, answerFields, readAnswer}
+use Rattle.messages.specs.Questions.{openingAt, rangeAt, burstRangeAt, fieldsAt}
+use Rattle.messages.specs.Answers.{hashAnswer, syndromeAnswer, bitsAnswer, answerBytes, sizeAt, syndromeAt, bitsAt, withinColumns, burstAt, answerFields, readAnswer}
 use Rattle.strings.specs.declared.settings.Settings.{Settings}
 use Rattle.ends.specs.declared.How.the-variants.{ByBits}
 use Rattle.ends.specs.declared.Row.{Row}
@@ -24,14 +25,14 @@ use Rattle.ends.specs.declared.Rebuilder.{Rebuilder}
 use Rattle.ends.specs.declared.SheetChange.the-variants.{AddRow, OneRow}
 use Rattle.strings.specs.SettingLimits.{houseSettings, withinLimits}
 use Rattle.ends.specs.Anchors.{isqrt, place}
-use Rattle.ends.specs.Segments.{dropped, waiting, settled, hashOf, laterStage, firstStage, begin, effect, offset}
+use Rattle.ends.specs.Segments.{dropped, waiting, settled, hashOf, laterStage, isBurst, firstStage, begin, effect, offset}
 use Rattle.ends.specs.Runs.{sizeOf, working, whole, judge, blank}
 use Rattle.ends.specs.States.{noPiece, top, popped, restaged, retried, planned}
 use Rattle.ends.specs.Soundness.{holderSound, isBlank, blankFrom, pieceFits, inOrder, rowsLeft, asksLeft, stageFits, stackSound, topFits, openingSound, piecesSound, wholeSound, sound}
 use Rattle.ends.specs.HolderCall.{replies, freshHolder, sameBitCount, sends, holderCall}
 use Rattle.ends.specs.RebuilderCall.{rebuilderStart, Capacities, clears, writes, stringAfter, sheetAfter, tallied, effectStep, stepOf, rebuilderCall, freshRebuilder}
 use Rattle.ends.specs.declared.Stage.{Stage}
-use Rattle.ends.specs.declared.Stage.the-variants.{Anchor, AllBits, Hashing, PuttingIn, TakingOut}
+use Rattle.ends.specs.declared.Stage.the-variants.{Anchor, AllBits, Hashing, PuttingIn, TakingOut, Columns}
 use Rattle.ends.specs.declared.Attempt.the-variants.{First, Second, Third}
 use Rattle.ends.specs.declared.Phase.{Phase}
 use Rattle.ends.specs.declared.Phase.the-variants.{AtOpening, AtPieces, AtWhole}
@@ -67,6 +68,11 @@ state ph n a c r t w =
 abbrev atStage : Stage → Rebuilder
 atStage t = state AtPieces 4 1 0 0 t 1
 
+-- a piece of 5 bits of X and 3 of Y, asked for in columns
+abbrev atColumns : Rebuilder
+atColumns =
+    record { settings = eight; ybits = 3; phase = AtPieces; n = 5; answered = 1; counted = 0; rows = 0; stage = Columns; waiting = 1; pieces = set (replicate 32 noPiece) 0 (record { x = 0; p = 5; y = 0; q = 3 }) }
+
 abbrev finished : Rebuilder
 finished = popped (state AtPieces 4 2 4 1 Hashing 1)
 
@@ -75,6 +81,7 @@ abbrev offsets : Settings → ℕ → Stage → List ℕ
 offsets S p Hashing = []
 offsets S p PuttingIn = []
 offsets S p TakingOut = []
+offsets S p Columns = []
 offsets S p (Anchor i) = offset (S .m) p First ∷ offset (S .m) p Second ∷ offset (S .m) p Third ∷ []
 offsets S p AllBits = []
 
@@ -136,10 +143,12 @@ pub record Samples : Type 0 where
   -- or q < m
   pub small-q : map (laterStage eight 64) (7 ∷ 8 ∷ []) ≡ AllBits ∷ Anchor First ∷ []
   -- Steps 2 to 4: q = p, q = p - 1 or p + 1, otherwise
-  pub first-10 : map (firstStage eight 10) (8 ∷ 9 ∷ 10 ∷ 11 ∷ 12 ∷ []) ≡ AllBits ∷ PuttingIn ∷ Hashing ∷ TakingOut ∷ AllBits ∷ []
-  pub first-100 : map (firstStage eight 100) (98 ∷ 99 ∷ 100 ∷ 101 ∷ 102 ∷ []) ≡ Anchor First ∷ PuttingIn ∷ Hashing ∷ TakingOut ∷ Anchor First ∷ []
-  pub first-1 : map (firstStage eight 1) (0 ∷ 1 ∷ 2 ∷ 3 ∷ []) ≡ PuttingIn ∷ Hashing ∷ TakingOut ∷ AllBits ∷ []
-  pub first-2 : map (firstStage eight 2) (0 ∷ 1 ∷ []) ≡ AllBits ∷ PuttingIn ∷ []
+  pub first-10 : map (firstStage eight 10) (8 ∷ 9 ∷ 10 ∷ 11 ∷ 12 ∷ []) ≡ Columns ∷ PuttingIn ∷ Hashing ∷ TakingOut ∷ Columns ∷ []
+  pub first-100 : map (firstStage eight 100) (98 ∷ 99 ∷ 100 ∷ 101 ∷ 102 ∷ []) ≡ Columns ∷ PuttingIn ∷ Hashing ∷ TakingOut ∷ Columns ∷ []
+  pub first-1 : map (firstStage eight 1) (0 ∷ 1 ∷ 2 ∷ 3 ∷ []) ≡ PuttingIn ∷ Hashing ∷ TakingOut ∷ Columns ∷ []
+  pub first-2 : map (firstStage eight 2) (0 ∷ 1 ∷ []) ≡ Columns ∷ PuttingIn ∷ []
+  -- 02, CR 1: lengths that differ by 2 to 32, before step 4
+  pub first-40 : map (firstStage eight 40) (7 ∷ 8 ∷ 38 ∷ 42 ∷ 72 ∷ 73 ∷ []) ≡ AllBits ∷ Columns ∷ Columns ∷ Columns ∷ Columns ∷ AllBits ∷ []
   -- Step 1: p = 0 is dropped, whatever q is
   pub empty-piece : begin eight 0 [] ∷ begin eight 0 (true ∷ []) ∷ begin eight 1 (true ∷ []) ∷ [] ≡ dropped [] ∷ dropped (true ∷ []) ∷ waiting 1 (true ∷ []) Hashing ∷ []
   -- an answer's bytes join a count
@@ -168,13 +177,16 @@ pub record Samples : Type 0 where
   pub holder-answers : map (λ (answers : ℕ). holderRefusal (holder true 4 8 1 answers) 9 []) (0 ∷ 1 ∷ 999999 ∷ 1000000 ∷ 1000001 ∷ []) ≡ 3 ∷ 4 ∷ 4 ∷ 3 ∷ 3 ∷ []
   pub last-answer : holderCall (holder true 4 8 1 999999) (0xb0 ∷ []) 4 (0x01 ∷ 0x00 ∷ 0x04 ∷ []) 3 ≡ replies (holder true 4 8 1 1000000) (0x01 ∷ 0xab ∷ 0x01 ∷ [])
   -- the kind: 4, 5, 6 as met; then 3 for a known kind out of turn, before its fields
-  pub kind-unopened : map (holderRefusal freshHolder 9) ([] ∷ (0x80 ∷ []) ∷ (0x80 ∷ 0x00 ∷ []) ∷ (0x04 ∷ []) ∷ (0x01 ∷ []) ∷ (0x02 ∷ []) ∷ (0x03 ∷ []) ∷ []) ≡ 4 ∷ 4 ∷ 5 ∷ 6 ∷ 3 ∷ 3 ∷ 3 ∷ []
-  pub kind-opened : map (holderRefusal (holder true 4 8 1 1) 9) ((0x04 ∷ []) ∷ (0x00 ∷ []) ∷ []) ≡ 6 ∷ 3 ∷ []
+  pub kind-unopened : map (holderRefusal freshHolder 9) ([] ∷ (0x80 ∷ []) ∷ (0x80 ∷ 0x00 ∷ []) ∷ (0x05 ∷ []) ∷ (0x01 ∷ []) ∷ (0x02 ∷ []) ∷ (0x03 ∷ []) ∷ (0x04 ∷ []) ∷ []) ≡ 4 ∷ 4 ∷ 5 ∷ 6 ∷ 3 ∷ 3 ∷ 3 ∷ 3 ∷ []
+  pub kind-opened : map (holderRefusal (holder true 4 8 1 1) 9) ((0x05 ∷ []) ∷ (0x00 ∷ []) ∷ []) ≡ 6 ∷ 3 ∷ []
   -- the fields: 4 and 5 as met; then 7, 8, 9: a reply needs its own length
   pub fields : map (holderRefusal (holder true 4 8 1 1) 9) ((0x01 ∷ 0x00 ∷ []) ∷ (0x01 ∷ 0x80 ∷ 0x00 ∷ []) ∷ (0x01 ∷ 0xff ∷ 0xff ∷ 0xff ∷ 0xff ∷ 0x10 ∷ []) ∷ (0x01 ∷ 0xff ∷ 0xff ∷ 0xff ∷ 0xff ∷ 0x0f ∷ 0x01 ∷ []) ∷ (0x01 ∷ 0x00 ∷ 0x05 ∷ 0x00 ∷ []) ∷ []) ≡ 4 ∷ 5 ∷ 5 ∷ 8 ∷ 7 ∷ []
   pub reply-short : holderRefusal (holder true 4 8 1 1) 0 (0x01 ∷ 0x00 ∷ 0x05 ∷ []) ∷ holderRefusal (holder true 4 8 1 1) 2 (0x01 ∷ 0x00 ∷ 0x04 ∷ []) ∷ holderRefusal (holder true 4 8 1 1) 3 (0x01 ∷ 0x00 ∷ 0x04 ∷ []) ∷ [] ≡ 8 ∷ 9 ∷ 0 ∷ []
   -- a range has length 1 or more and ends by n, here 4
   pub ranges : map (holderRefusal (holder true 4 8 1 1) 9) ((0x01 ∷ 0x00 ∷ 0x00 ∷ []) ∷ (0x01 ∷ 0x00 ∷ 0x01 ∷ []) ∷ (0x01 ∷ 0x00 ∷ 0x04 ∷ []) ∷ (0x01 ∷ 0x00 ∷ 0x05 ∷ []) ∷ (0x01 ∷ 0x03 ∷ 0x01 ∷ []) ∷ (0x01 ∷ 0x04 ∷ 0x01 ∷ []) ∷ (0x02 ∷ 0x03 ∷ 0x02 ∷ []) ∷ (0x03 ∷ 0x03 ∷ 0x02 ∷ []) ∷ []) ≡ 8 ∷ 0 ∷ 0 ∷ 8 ∷ 0 ∷ 8 ∷ 8 ∷ 8 ∷ []
+  -- B is 2 to 32, else 10, after 7 and before 8
+  pub bursts : map (λ (b : ℕ). holderRefusal (holder true 4 8 1 1) 40 (0x04 ∷ 0x00 ∷ 0x04 ∷ b ∷ [])) (0 ∷ 1 ∷ 2 ∷ 32 ∷ 33 ∷ []) ≡ 10 ∷ 10 ∷ 0 ∷ 0 ∷ 10 ∷ []
+  pub burst-order : map (holderRefusal (holder true 4 8 1 1) 9) ((0x04 ∷ 0x00 ∷ 0x05 ∷ []) ∷ (0x04 ∷ 0x00 ∷ 0x05 ∷ 0x01 ∷ 0x00 ∷ []) ∷ (0x04 ∷ 0x00 ∷ 0x05 ∷ 0x01 ∷ []) ∷ (0x04 ∷ 0x00 ∷ 0x05 ∷ 0x02 ∷ []) ∷ (0x04 ∷ 0x00 ∷ 0x04 ∷ 0x20 ∷ []) ∷ []) ≡ 4 ∷ 7 ∷ 10 ∷ 8 ∷ 9 ∷ []
   -- an opening: version 1, h and key in the settings' limits; 7 before 8; its reply has 2 bytes
   pub opening-version : map (λ (version : ℕ). holderRefusal freshHolder 9 (0x00 ∷ version ∷ 0x08 ∷ 0x01 ∷ [])) (0 ∷ 1 ∷ 2 ∷ []) ≡ 8 ∷ 0 ∷ 8 ∷ []
   pub opening-h : map (λ (h : ℕ). holderRefusal freshHolder 9 (0x00 ∷ 0x01 ∷ h ∷ 0x01 ∷ [])) (7 ∷ 8 ∷ 32 ∷ 33 ∷ []) ≡ 8 ∷ 0 ∷ 0 ∷ 8 ∷ []
@@ -194,6 +206,8 @@ pub record Samples : Type 0 where
   pub capacities-last : map (λ (question : ℕ). rebuilderRefusal (atStage PuttingIn) (capacities 1 1 question) (0x02 ∷ 0x03 ∷ 0xab ∷ 0x01 ∷ [])) (7 ∷ 8 ∷ []) ≡ 9 ∷ 0 ∷ []
   -- a syndrome up to the length, here 4; a hash below 2^h, here 256; then an answer cut short, one with a byte behind it, one of another kind
   pub syndrome-answers : map (rebuilderRefusal (atStage PuttingIn) (capacities 1 1 8)) ((0x02 ∷ 0x04 ∷ 0x00 ∷ []) ∷ (0x02 ∷ 0x05 ∷ 0x00 ∷ []) ∷ (0x02 ∷ 0x00 ∷ 0xff ∷ 0x01 ∷ []) ∷ (0x02 ∷ 0x00 ∷ 0x80 ∷ 0x02 ∷ []) ∷ (0x02 ∷ 0x03 ∷ []) ∷ (0x02 ∷ 0x03 ∷ 0xab ∷ 0x01 ∷ 0x00 ∷ []) ∷ (0x01 ∷ 0x03 ∷ []) ∷ []) ≡ 0 ∷ 8 ∷ 0 ∷ 8 ∷ 4 ∷ 7 ∷ 6 ∷ []
+  -- a syndrome of each column up to its length, here 3 and 2, and a hash below 2^h; then 4 and 7
+  pub burst-answers : map (rebuilderRefusal atColumns (capacities 1 1 8)) ((0x04 ∷ 0x03 ∷ 0x02 ∷ 0x00 ∷ []) ∷ (0x04 ∷ 0x04 ∷ 0x02 ∷ 0x00 ∷ []) ∷ (0x04 ∷ 0x03 ∷ 0x03 ∷ 0x00 ∷ []) ∷ (0x04 ∷ 0x03 ∷ 0x02 ∷ 0xff ∷ 0x01 ∷ []) ∷ (0x04 ∷ 0x03 ∷ 0x02 ∷ 0x80 ∷ 0x02 ∷ []) ∷ (0x04 ∷ 0x03 ∷ 0x02 ∷ []) ∷ (0x04 ∷ 0x03 ∷ 0x02 ∷ 0x00 ∷ 0x00 ∷ []) ∷ []) ≡ 0 ∷ 8 ∷ 8 ∷ 0 ∷ 8 ∷ 4 ∷ 7 ∷ []
   -- bits packed as a string: here 4 in 1 byte, spare bits zero
   pub bits-answers : map (rebuilderRefusal (atStage AllBits) (capacities 1 1 8)) ((0x03 ∷ []) ∷ (0x03 ∷ 0xb0 ∷ []) ∷ (0x03 ∷ 0xb8 ∷ []) ∷ (0x03 ∷ 0xb8 ∷ 0x00 ∷ []) ∷ []) ≡ 4 ∷ 0 ∷ 8 ∷ 7 ∷ []
   -- a trial is left in the string only if its hash agrees; else the whole piece is asked for
@@ -207,8 +221,8 @@ pub record Samples : Type 0 where
   pub sound-rows : map (λ (rows : ℕ). sound (state AtPieces 4 1 0 rows PuttingIn 1)) (0 ∷ 1 ∷ []) ≡ true ∷ false ∷ []
   pub sound-stage : map (λ (stage : Stage). sound (state AtPieces 4 2 0 0 stage 1)) (Anchor First ∷ AllBits ∷ Hashing ∷ []) ≡ false ∷ true ∷ false ∷ []
   pub sound-waiting : map (λ (waiting : ℕ). sound (state AtPieces 4 1 0 0 PuttingIn waiting)) (0 ∷ 1 ∷ 2 ∷ 33 ∷ []) ≡ false ∷ true ∷ false ∷ false ∷ []
-  pub sound-whole : map (λ (counted : ℕ). sound (state AtWhole 4 1 counted 0 PuttingIn 1)) (100 ∷ 101 ∷ 109 ∷ 110 ∷ []) ≡ false ∷ true ∷ true ∷ false ∷ []
+  pub sound-whole : map (λ (counted : ℕ). sound (state AtWhole 4 1 counted 0 PuttingIn 1)) (100 ∷ 101 ∷ 202 ∷ 203 ∷ []) ≡ false ∷ true ∷ true ∷ false ∷ []
 
 pub samples : Samples
-unfolding bitAt range flipped setBit writeBits pack cleared sameBits noneSet stringRule syndrome insertions withSyndrome putIn xorLeft xorRight xorshift hashFrom hash groups number nextByte numberAt twoAt threeAt kindAt openingAt rangeAt fieldsAt answerBytes sizeAt syndromeAt bitsAt answerFields readAnswer withinLimits isqrt place hashOf laterStage firstStage begin effect sizeOf judge top popped restaged retried planned holderSound isBlank blankFrom pieceFits inOrder rowsLeft asksLeft stageFits topFits stackSound openingSound piecesSound wholeSound sound sameBitCount sends holderCall rebuilderStart tallied effectStep stepOf rebuilderCall
-samples = record { limit-m = refl; limit-h = refl; limit-k = refl; limit-key = refl; limit-ceiling = refl; house = refl; roots = refl; window = refl; tie = refl; window-67 = refl; window-65 = refl; tie-67 = refl; window-63 = refl; window-k-2 = refl; last-place = refl; below-0 = refl; small-p = refl; small-m-16 = refl; small-h-16 = refl; small-most = refl; small-q = refl; first-10 = refl; first-100 = refl; first-1 = refl; first-2 = refl; empty-piece = refl; answer-bytes = refl; ceiling = refl; ceiling-settled = refl; ceiling-phase = refl; zeroed = refl; written = refl; sheet-add = refl; sheet-one = refl; start-order = refl; string-bytes = refl; string-spare = refl; string-most = refl; holder-string = refl; holder-state = refl; holder-answers = refl; last-answer = refl; kind-unopened = refl; kind-opened = refl; fields = refl; reply-short = refl; ranges = refl; opening-version = refl; opening-h = refl; opening-key = refl; opening-short = refl; call-string = refl; call-state = refl; call-order = refl; capacities-most = refl; capacities-0 = refl; capacities-7 = refl; capacities-8 = refl; capacities-9 = refl; capacities-last = refl; syndrome-answers = refl; bits-answers = refl; trial = refl; trial-next = refl; sound-phase = refl; sound-n = refl; sound-answered = refl; sound-counted = refl; sound-rows = refl; sound-stage = refl; sound-waiting = refl; sound-whole = refl }
+unfolding bitAt range flipped setBit writeBits pack cleared sameBits noneSet stringRule syndrome insertions withSyndrome putIn columns syndromes xorLeft xorRight xorshift hashFrom hash groups number nextByte numberAt twoAt threeAt allNumbers numbersAt kindAt openingAt rangeAt burstRangeAt fieldsAt answerBytes sizeAt syndromeAt bitsAt withinColumns burstAt answerFields readAnswer withinLimits isqrt place hashOf laterStage isBurst firstStage begin effect sizeOf judge top popped restaged retried planned holderSound isBlank blankFrom pieceFits inOrder rowsLeft asksLeft stageFits topFits stackSound openingSound piecesSound wholeSound sound sameBitCount sends holderCall rebuilderStart tallied effectStep stepOf rebuilderCall
+samples = record { limit-m = refl; limit-h = refl; limit-k = refl; limit-key = refl; limit-ceiling = refl; house = refl; roots = refl; window = refl; tie = refl; window-67 = refl; window-65 = refl; tie-67 = refl; window-63 = refl; window-k-2 = refl; last-place = refl; below-0 = refl; small-p = refl; small-m-16 = refl; small-h-16 = refl; small-most = refl; small-q = refl; first-10 = refl; first-100 = refl; first-1 = refl; first-2 = refl; first-40 = refl; empty-piece = refl; answer-bytes = refl; ceiling = refl; ceiling-settled = refl; ceiling-phase = refl; zeroed = refl; written = refl; sheet-add = refl; sheet-one = refl; start-order = refl; string-bytes = refl; string-spare = refl; string-most = refl; holder-string = refl; holder-state = refl; holder-answers = refl; last-answer = refl; kind-unopened = refl; kind-opened = refl; fields = refl; reply-short = refl; ranges = refl; bursts = refl; burst-order = refl; opening-version = refl; opening-h = refl; opening-key = refl; opening-short = refl; call-string = refl; call-state = refl; call-order = refl; capacities-most = refl; capacities-0 = refl; capacities-7 = refl; capacities-8 = refl; capacities-9 = refl; capacities-last = refl; syndrome-answers = refl; burst-answers = refl; bits-answers = refl; trial = refl; trial-next = refl; sound-phase = refl; sound-n = refl; sound-answered = refl; sound-counted = refl; sound-rows = refl; sound-stage = refl; sound-waiting = refl; sound-whole = refl }

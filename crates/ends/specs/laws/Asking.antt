@@ -13,7 +13,7 @@ use Rattle.strings.specs.Refusals.{refusalNumber}
 use Rattle.strings.specs.Results.{value}
 use Rattle.messages.specs.laws.AnswerLaws.{answer-form}
 use Rattle.messages.specs.Answers.{Answer, readAnswer}
-use Rattle.messages.specs.Questions.{questionKind, questionLength}
+use Rattle.messages.specs.Questions.{questionKind, questionLength, questionBurst}
 use Rattle.messages.specs.declared.Question.{Question}
 use Rattle.ends.specs.RebuilderCall.{Capacities, Step, awaits, bitsKnown, given, rebuilderCall, enoughFor, stepOf, takes, writtenQuestion, Taken}
 use Rattle.ends.specs.Runs.{sizeOf}
@@ -39,7 +39,7 @@ pub asks-planned : {S : Settings} {yb : ℕ} {bs₀ : List ℕ} {sh₀ : List Ro
 unfolding planned top
 asks-planned {S} {st = st} {s = s} h = go (st .phase) ∙ sym (ap (askStore S) (h .is))
   where
-    ask-top : (w : ℕ) (arr : List Piece) (t : Stage) → cond (eqb w 0) none (some (asks S (getD arr (w - 1) noPiece .x) (getD arr (w - 1) noPiece .p) t)) ≡ askTop S t (held w arr)
+    ask-top : (w : ℕ) (arr : List Piece) (t : Stage) → cond (eqb w 0) none (some (asks S (getD arr (w - 1) noPiece .x) (getD arr (w - 1) noPiece .p) (getD arr (w - 1) noPiece .q) t)) ≡ askTop S t (held w arr)
     ask-top zero arr t = refl
     ask-top (suc w) arr t =
         let e : suc w - 1 ≡ w = omega arith in
@@ -56,7 +56,7 @@ pub record TakenCall (st : Rebuilder) (y : List ℕ) (msg : List ℕ) (capacitie
   pub q : Question
   pub asked : planned st ≡ some q
   pub a : Answer
-  pub read : readAnswer (questionKind q) (questionLength q) (st .settings .h) msg ≡ value a
+  pub read : readAnswer (questionKind q) (questionLength q) (questionBurst q) (st .settings .h) msg ≡ value a
   pub capacity : enoughFor st (bitsKnown st a) capacities ≡ true
   pub steps : step ≡ stepOf st y (length msg) a
   pub asks : next ≡ writtenQuestion (planned (stepOf st y (length msg) a .state))
@@ -79,7 +79,7 @@ module _ (st : Rebuilder) (y : List ℕ) (bits : ℕ) (msg : List ℕ) (capaciti
       go : sound st ≡ true → (o : Option Question) → planned st ≡ o → awaits st y msg capacities o ≡ takes step next → TakenCall st y msg capacities step next
       go s none k f = absurd (no-value (refusalNumber OutOfTurn) _ f)
       go s (some q) k f =
-          let h = then-passed (readAnswer (questionKind q) (questionLength q) (st .settings .h) msg) (given st y msg capacities) _ f in
+          let h = then-passed (readAnswer (questionKind q) (questionLength q) (questionBurst q) (st .settings .h) msg) (given st y msg capacities) _ f in
           let g = given-taken (h .0) (h .2) in
           record { sound-before = s; q = q; asked = k; a = h .0; read = h .1; capacity = g .0; steps = g .1; asks = g .2 }
 
@@ -89,5 +89,5 @@ pub call-sound : (st : Rebuilder) (y : List ℕ) (bits : ℕ) (msg : List ℕ) (
 unfolding sizeOf
 call-sound st y bits msg capacities step next arr by e =
     let t = taken-call st y bits msg capacities step next e in
-    let f = answer-form (questionKind (t .q)) (questionLength (t .q)) (st .settings .h) msg (t .a) (t .read) in
+    let f = answer-form (questionKind (t .q)) (questionLength (t .q)) (questionBurst (t .q)) (st .settings .h) msg (t .a) (t .read) in
     rw (t .steps) (step-sound st y (t .q) (t .a) (length msg) arr (t .sound-before) (t .asked) (f .proper) (ap length (f .bytes by)))

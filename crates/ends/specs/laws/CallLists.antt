@@ -20,9 +20,9 @@ use Rattle.strings.specs.laws.SettingLaws.{limits-is}
 use Rattle.strings.specs.laws.Tests.{and-true, true-false}
 use Rattle.strings.specs.declared.settings.Settings.{Settings}
 use Rattle.messages.specs.Answers.{Answer, answerBytes, readAnswer}
-use Rattle.messages.specs.Questions.{questionBytes, questionKind, questionLength, readQuestion}
+use Rattle.messages.specs.Questions.{questionBurst, questionBytes, questionKind, questionLength, readQuestion}
 use Rattle.messages.specs.declared.Question.{Question}
-use Rattle.messages.specs.declared.Question.the-variants.{AskBits, AskHash, AskOpen, AskSyndrome}
+use Rattle.messages.specs.declared.Question.the-variants.{AskBits, AskHash, AskOpen, AskSyndrome, AskBurst}
 use Rattle.messages.specs.laws.AnswerLaws.{answer-reads}
 use Rattle.messages.specs.laws.QuestionLaws.{InRange, empty-no-question, question-fields-read, question-kind-reads, question-known, question-reads}
 use Rattle.ends.specs.Claims.{zeroed, zeroedNext}
@@ -111,6 +111,7 @@ module _ (c : Lent) (sup : Supposed c) where
       inside-of (AskHash x p) r = (r .within .some, r .within .ends)
       inside-of (AskSyndrome x p) r = (r .within .some, r .within .ends)
       inside-of (AskBits x p) r = (r .within .some, r .within .ends)
+      inside-of (AskBurst x p b) r = (r .within .range .some, r .within .range .ends, r .within .b-least, r .within .b-most)
 
   pub honest-next : (n : ℕ) (s : Run) → Honest n s → (q : Question) → question S s ≡ some q → Honest (n + 1) (advance S Y s (honestAnswer S X q))
   honest-next n s h q k = record {
@@ -174,8 +175,10 @@ module _ (c : Lent) (sup : Supposed c) where
     planned-is : planned r ≡ some q
     planned-is = asks-planned (k .stands) ∙ asks-same S s ∙ wq
 
-    reads-so : readAnswer (questionKind q) (questionLength q) (S .h) m ≡ value a
-    reads-so = answer-reads (questionLength q) (S .h) (length-most (c .xbits) q x-few (in-range n s (k .honest) q wq)) (L .h-most) (questionKind q) a (proper n s (k .honest) q wq)
+    reads-so : readAnswer (questionKind q) (questionLength q) (questionBurst q) (S .h) m ≡ value a
+    reads-so =
+        let r = in-range n s (k .honest) q wq in
+        answer-reads (questionLength q) (questionBurst q) (S .h) (length-most (c .xbits) q x-few r) (L .h-most) (questionKind q) a (proper n s (k .honest) q wq)
 
     -- the message is read so in the run, too
     pub continues : continued S Y s (answerFor S (question S s) m) ≡ advance S Y s a
@@ -187,7 +190,7 @@ module _ (c : Lent) (sup : Supposed c) where
     takes-it buffer g =
         let yb : r .ybits ≡ c .ybits = k .stands .copy ∙ y-length in
         let st : r .settings .h ≡ S .h = ap (λ (z : Settings). z .h) (k .stands .settings) in
-        let rd : readAnswer (questionKind q) (questionLength q) (r .settings .h) m ≡ value a = ap (λ (z : ℕ). readAnswer (questionKind q) (questionLength q) z m) st ∙ reads-so in
+        let rd : readAnswer (questionKind q) (questionLength q) (questionBurst q) (r .settings .h) m ≡ value a = ap (λ (z : ℕ). readAnswer (questionKind q) (questionLength q) (questionBurst q) z m) st ∙ reads-so in
         rw (sup .copy, eq-eqb (r .ybits) (c .ybits) yb, k .sound-now, planned-is, rd, enough-true) refl
       where
         enough-true : enoughFor r (bitsKnown r a) (capacities (length bs) (length sh) (length buffer)) ≡ true
@@ -270,6 +273,7 @@ module _ (c : Lent) (sup : Supposed c) where
   OwnOpening (AskHash x p) = Unit {0}
   OwnOpening (AskSyndrome x p) = Unit {0}
   OwnOpening (AskBits x p) = Unit {0}
+  OwnOpening (AskBurst x p b) = Unit {0}
 
   pub record Past (m : List ℕ) : Type 0 where
     pub q : Question
@@ -285,6 +289,7 @@ module _ (c : Lent) (sup : Supposed c) where
       not-open (AskHash x p) o = tt
       not-open (AskSyndrome x p) o = tt
       not-open (AskBits x p) o = tt
+      not-open (AskBurst x p b) o = tt
 
       own-now : (s : Run) (q : Question) → question S s ≡ some q → OwnOpening q
       own-now opening q k = let e : AskOpen (S .h) (S .key) ≡ q = cc in rw (← e) (refl, refl)
@@ -309,6 +314,7 @@ module _ (c : Lent) (sup : Supposed c) where
   turn-true (AskHash x p) n = refl
   turn-true (AskSyndrome x p) n = refl
   turn-true (AskBits x p) n = refl
+  turn-true (AskBurst x p b) n = refl
 
   -- "A holder that had taken each earlier question once and nothing else replies exactly this"
   module _ (n : ℕ) (s : Run) (h : Honest n s) (q : Question) (k : question S s ≡ some q) (reply : List ℕ) (long : longestAnswer (c .xbits) ≤ length reply) where

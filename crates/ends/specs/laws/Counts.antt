@@ -12,23 +12,24 @@ use lib.Seq.{drop-drop}
 use lib.Dec.{eqb, lit≤}
 use Rattle.codes.specs.Repair.{putIn, takeOut}
 use Rattle.messages.specs.Answers.{Answer}
-use Rattle.ends.specs.Anchors.{part, place}
+use Rattle.ends.specs.Anchors.{part, place, distance}
 use Rattle.strings.specs.SettingLimits.{Limits}
 use Rattle.ends.specs.laws.Right.{Fit, StageOk, offset-fits}
 use Rattle.ends.specs.Runs.{copies, copyOf}
 use Rattle.ends.specs.laws.SegmentLaws.{Chain}
-use Rattle.ends.specs.Segments.{Effect, Segment, begin, dropped, effect, firstStage, hashOf, laterStage, made, placed, retry, rowsOf, settled, settles, splits, stays, step, theBits, theHash, theSyndrome, tooSmall, trial, trialOf, waiting, offset, afterAnchor}
+use Rattle.ends.specs.Segments.{Effect, Segment, begin, dropped, effect, firstStage, hashOf, laterStage, made, placed, retry, rowsOf, settled, settles, splits, stays, step, theBits, theHash, theSyndrome, tooSmall, trial, trialOf, waiting, offset, afterAnchor, isBurst, theSyndromes}
 use Rattle.ends.specs.laws.Shape.{Shape}
 use Rattle.ends.specs.declared.How.{How}
-use Rattle.ends.specs.declared.How.the-variants.{ByAnchor, ByHash, ByPutIn, ByTakeOut}
+use Rattle.ends.specs.declared.How.the-variants.{ByAnchor, ByHash, ByPutIn, ByTakeOut, ByBurst}
 use Rattle.strings.specs.declared.settings.Settings.{Settings}
 use Rattle.strings.specs.laws.Tests.{by-test}
 use Rattle.ends.specs.Claims.{isWait, total}
 use Rattle.ends.specs.Soundness.{bound, asksBefore}
-use Rattle.ends.specs.declared.Stage.the-variants.{Hashing, PuttingIn, TakingOut, Anchor, AllBits}
+use Rattle.ends.specs.declared.Stage.the-variants.{Hashing, PuttingIn, TakingOut, Anchor, AllBits, Columns}
 use Rattle.ends.specs.declared.Attempt.{Attempt}
 use Rattle.ends.specs.declared.Attempt.the-variants.{First, Second, Third}
 use Rattle.ends.specs.declared.Stage.{Stage}
+use Rattle.codes.specs.Columns.{repairRun}
 
 -- two parts and an anchor between them
 pub split-div : (m a b p : ℕ) → 0 < m → a + (m + b) ≡ p → a / m + b / m + 1 ≤ p / m
@@ -43,6 +44,7 @@ pub before-most : (t : Stage) → asksBefore t ≤ 4
 before-most Hashing = lit≤ tt
 before-most PuttingIn = lit≤ tt
 before-most TakingOut = lit≤ tt
+before-most Columns = lit≤ tt
 before-most (Anchor First) = lit≤ tt
 before-most (Anchor Second) = lit≤ tt
 before-most (Anchor Third) = lit≤ tt
@@ -72,7 +74,8 @@ module _ (S : Settings) where
   first-cost p q =
       by-test (λ (t : Stage). cost t ≤ 5) (eqb q p) (λ e. lit≤ tt) (λ e.
       by-test (λ (t : Stage). cost t ≤ 5) (eqb (q + 1) p) (λ e. lit≤ tt) (λ e.
-      by-test (λ (t : Stage). cost t ≤ 5) (eqb q (p + 1)) (λ e. lit≤ tt) (λ e. let h = later-cost p q in omega arith)))
+      by-test (λ (t : Stage). cost t ≤ 5) (eqb q (p + 1)) (λ e. lit≤ tt) (λ e.
+      by-test (λ (t : Stage). cost t ≤ 5) (isBurst p q) {a = Columns} (λ e. lit≤ tt) (λ e. let h = later-cost p q in omega arith))))
 
   trial-sane : (v p : ℕ) (w : How) (ys b : List Bool) (t : Stage) → cost t ≡ 5 → Sane S p t (trial S v w b (retry S p ys))
   trial-sane v p w ys b t e =
@@ -91,6 +94,7 @@ module _ (S : Settings) where
   sane L a p ys Hashing h = trial-sane (theHash a) p ByHash ys ys Hashing refl
   sane L a p ys PuttingIn h = trialOf-sane (theHash a) p ByPutIn ys (putIn (theSyndrome a) ys) PuttingIn refl
   sane L a p ys TakingOut h = trialOf-sane (theHash a) p ByTakeOut ys (takeOut (theSyndrome a) ys) TakingOut refl
+  sane L a p ys Columns h = trialOf-sane (theHash a) p ByBurst ys (repairRun (distance p (length ys)) p (theSyndromes a) ys) Columns refl
   sane L a p ys AllBits h = tt
   sane L a p ys (Anchor i) h = placed-sane p (offset (S .m) p i) (theBits a) i (place (S .m) (S .k) p (offset (S .m) p i) ys (theBits a)) (offset-fits S L p i h)
 

@@ -14,7 +14,7 @@ use Rattle.messages.specs.Answers.{Answer}
 use Rattle.messages.specs.laws.QuestionLaws.{InRange}
 use Rattle.messages.specs.Questions.{questionBytes, questionLength}
 use Rattle.messages.specs.declared.Question.{Question}
-use Rattle.messages.specs.declared.Question.the-variants.{AskBits, AskHash, AskOpen, AskSyndrome}
+use Rattle.messages.specs.declared.Question.the-variants.{AskBits, AskHash, AskOpen, AskSyndrome, AskBurst}
 use Rattle.strings.specs.SettingLimits.{Limits, withinLimits}
 use Rattle.ends.specs.laws.Kept.{Opened}
 use Rattle.ends.specs.laws.Moves.{effectState, moved-effect, moved-opening}
@@ -38,7 +38,7 @@ use Rattle.strings.specs.StringRule.{stringRule}
 use Rattle.strings.specs.laws.Tests.{by-test}
 use Rattle.strings.specs.laws.WriteLaws.{length-writeBits}
 use Rattle.strings.specs.declared.Refusal.the-variants.{BadSetting, BadString, BufferTooShort}
-use Rattle.ends.specs.declared.Stage.the-variants.{Hashing, PuttingIn, TakingOut, Anchor, AllBits}
+use Rattle.ends.specs.declared.Stage.the-variants.{Hashing, PuttingIn, TakingOut, Anchor, AllBits, Columns}
 use Rattle.ends.specs.declared.Stage.{Stage}
 
 -- ---- questions
@@ -47,19 +47,21 @@ NotOpen (AskOpen h key) = ⊥
 NotOpen (AskHash x p) = Unit {0}
 NotOpen (AskSyndrome x p) = Unit {0}
 NotOpen (AskBits x p) = Unit {0}
+NotOpen (AskBurst x p b) = Unit {0}
 
-pub asks-not-open : (S : Settings) (x p : ℕ) (t : Stage) → NotOpen (asks S x p t)
-asks-not-open S x p Hashing = tt
-asks-not-open S x p PuttingIn = tt
-asks-not-open S x p TakingOut = tt
-asks-not-open S x p (Anchor i) = tt
-asks-not-open S x p AllBits = tt
+pub asks-not-open : (S : Settings) (x p q : ℕ) (t : Stage) → NotOpen (asks S x p q t)
+asks-not-open S x p q Hashing = tt
+asks-not-open S x p q PuttingIn = tt
+asks-not-open S x p q TakingOut = tt
+asks-not-open S x p q Columns = tt
+asks-not-open S x p q (Anchor i) = tt
+asks-not-open S x p q AllBits = tt
 
 pub ask-not-open : (S : Settings) (x : ℕ) (segs : List Segment) (q : Question) → ask S x segs ≡ some q → NotOpen q
 ask-not-open S x [] q k = let z : _≡_ {A = ℕ} 0 1 = cc in absurd (omega arith)
 ask-not-open S x (dropped ys ∷ r) q k = ask-not-open S x r q k
 ask-not-open S x (settled w ys b ∷ r) q k = ask-not-open S (x + length b) r q k
-ask-not-open S x (waiting p ys t ∷ r) q k = let e : asks S x p t ≡ q = cc in rw e at (asks-not-open S x p t)
+ask-not-open S x (waiting p ys t ∷ r) q k = let e : asks S x p (length ys) t ≡ q = cc in rw e at (asks-not-open S x p (length ys) t)
 
 pub later-not-open : (S : Settings) (s : Run) (q : Question) → Opened s → question S s ≡ some q → NotOpen q
 later-not-open S opening q n k = absurd n
@@ -71,12 +73,14 @@ inside-range n (AskOpen h key) o i = absurd o
 inside-range n (AskHash x p) o i = record { within = record { some = i .0; ends = i .1 }; key-most = omega arith }
 inside-range n (AskSyndrome x p) o i = record { within = record { some = i .0; ends = i .1 }; key-most = omega arith }
 inside-range n (AskBits x p) o i = record { within = record { some = i .0; ends = i .1 }; key-most = omega arith }
+inside-range n (AskBurst x p b) o i = record { within = record { range = record { some = i .0; ends = i .1 }; b-least = i .2; b-most = i .3 }; key-most = omega arith }
 
 pub length-most : (n : ℕ) (q : Question) → n ≤ maxBits → InRange n q → questionLength q ≤ maxBits
 length-most n (AskOpen h key) m r = omega arith
 length-most n (AskHash x p) m r = let e = r .within .ends in omega arith
 length-most n (AskSyndrome x p) m r = let e = r .within .ends in omega arith
 length-most n (AskBits x p) m r = let e = r .within .ends in omega arith
+length-most n (AskBurst x p b) m r = let e = r .within .range .ends in omega arith
 
 -- ---- buffers keep their lengths
 pub string-length-after : (bs : List ℕ) (k : StringChange) → length (stringAfter bs k) ≡ length bs

@@ -15,9 +15,9 @@ use Rattle.messages.specs.Answers.{answerBytes}
 use Rattle.messages.specs.Kinds.{kindAt}
 use Rattle.messages.specs.Questions.{fieldsAt, questionKind}
 use Rattle.messages.specs.declared.Kind.{Kind}
-use Rattle.messages.specs.declared.Kind.the-variants.{Bits, Hash, Open, Syndrome}
+use Rattle.messages.specs.declared.Kind.the-variants.{Bits, Hash, Open, Syndrome, Burst}
 use Rattle.messages.specs.declared.Question.{Question}
-use Rattle.messages.specs.declared.Question.the-variants.{AskBits, AskHash, AskOpen, AskSyndrome}
+use Rattle.messages.specs.declared.Question.the-variants.{AskBits, AskHash, AskOpen, AskSyndrome, AskBurst}
 use Rattle.ends.specs.HolderCall.{afterAnswer, answersTo, freshHolder, holderCall, inTurn, ofKind, replies, sameBitCount, sends, Reply}
 use Rattle.strings.specs.SettingLimits.{between}
 use Rattle.ends.specs.Runs.{answer}
@@ -116,6 +116,7 @@ turn-open o Open e = inl (refl, not-true o e)
 turn-open o Hash e = inr ((λ d. let z : _≡_ {A = ℕ} 0 1 = cc in omega arith), e)
 turn-open o Syndrome e = inr ((λ d. let z : _≡_ {A = ℕ} 0 1 = cc in omega arith), e)
 turn-open o Bits e = inr ((λ d. let z : _≡_ {A = ℕ} 0 1 = cc in omega arith), e)
+turn-open o Burst e = inr ((λ d. let z : _≡_ {A = ℕ} 0 1 = cc in omega arith), e)
 
 -- what an answered call makes of the state: it opens, or counts one more
 pub data Made (st : Holder) (bits : ℕ) (q : Question) (next : Holder) : Type 0 where
@@ -133,6 +134,8 @@ heard-made st x bits msg capacity next reply k = go (k .q) (turn-open (st .opene
     go (AskSyndrome s l) (inl t) w e = let d = w .0 ∙ t .0 in let z : _≡_ {A = ℕ} 0 1 = cc in absurd (omega arith)
     go (AskSyndrome s l) (inr t) w e = counts (t .1) (λ d. t .0 (sym (w .0) ∙ d)) e
     go (AskBits s l) (inl t) w e = let d = w .0 ∙ t .0 in let z : _≡_ {A = ℕ} 0 1 = cc in absurd (omega arith)
+    go (AskBurst s l b) (inl t) w e = let d = w .0 ∙ t .0 in let z : _≡_ {A = ℕ} 0 1 = cc in absurd (omega arith)
+    go (AskBurst s l b) (inr t) w e = counts (t .1) (λ d. t .0 (sym (w .0) ∙ d)) e
     go (AskBits s l) (inr t) w e = counts (t .1) (λ d. t .0 (sym (w .0) ∙ d)) e
 
 -- every state from a call of the holder is sound

@@ -8,14 +8,14 @@ use Prim.Native.Nat.{ℕ, _+_, _*_, _/_, _^_, _≤_, _<_}
 use native.Mathlib.Nat.{zero-add}
 use native.Mathlib.Numerals.{add-one}
 use native.Mathlib.Omega.{arith}
-use lib.ListN.{length}
+use lib.ListN.{length, getD}
 use lib.Dec.{ltb}
 use borrow.Author.Tests.{ltb-false}
 use Rattle.codes.specs.laws.HashLaws.{hash-below}
 use Rattle.codes.specs.laws.SyndromeLaws.{syndrome-most}
 use Rattle.messages.specs.Answers.{Answer}
 use Rattle.messages.specs.declared.Question.{Question}
-use Rattle.messages.specs.declared.Question.the-variants.{AskBits, AskHash, AskOpen, AskSyndrome}
+use Rattle.messages.specs.declared.Question.the-variants.{AskBits, AskHash, AskOpen, AskSyndrome, AskBurst}
 use Rattle.ends.specs.Anchors.{part}
 use Rattle.ends.specs.laws.Counts.{Nest, begin-copy, begin-nest, begin-norow, begin-pot, begin-rows, begin-wait, before-most, falls-pot, falls-rows, keeps-copy, pot, rowCost, sane, step-nest}
 use Rattle.ends.specs.Claims.{isWait, rowSum, total}
@@ -31,6 +31,8 @@ use Rattle.strings.specs.declared.settings.Settings.{Settings}
 use Rattle.strings.specs.laws.Tests.{by-test, true-false}
 use Rattle.strings.specs.Bits.{maxBits}
 use Rattle.ends.specs.declared.Stage.{Stage}
+use Rattle.codes.specs.Columns.{syndromes, columnLength, column}
+use Rattle.codes.specs.laws.ColumnLaws.{syndromes-length, syndromes-at, column-length}
 
 -- how many bits the reference has, as far as the run knows
 abbrev pub sizeOfRun : Run → ℕ
@@ -42,7 +44,7 @@ waits-some : (S : Settings) (x : ℕ) (segs : List Segment) → waits segs ≡ t
 waits-some S x [] e = let z : _≡_ {A = ℕ} 0 1 = cc in absurd (omega arith)
 waits-some S x (dropped ys ∷ r) e = waits-some S x r e
 waits-some S x (settled w ys b ∷ r) e = waits-some S (x + length b) r e
-waits-some S x (waiting p ys t ∷ r) e = (asks S x p t, refl)
+waits-some S x (waiting p ys t ∷ r) e = (asks S x p (length ys) t, refl)
 
 pub hash-most : (S : Settings) (l : List Bool) → hashOf S l < 2 ^ S .h
 unfolding hashOf
@@ -88,7 +90,7 @@ module _ (S : Settings) (Y : List Bool) where
         )
 
     -- the answer to q, at the piece that q asks for
-    pub work-chain : (n : ℕ) (q : Question) (a : Answer) → ProperFor S q a → (x p : ℕ) (ys : List Bool) (t : Stage) → Shape S n x (waiting p ys t) → asks S x p t ≡ q → Chain (Shape S n) x (work S a p ys t) (x + p)
+    pub work-chain : (n : ℕ) (q : Question) (a : Answer) → ProperFor S q a → (x p : ℕ) (ys : List Bool) (t : Stage) → Shape S n x (waiting p ys t) → asks S x p (length ys) t ≡ q → Chain (Shape S n) x (work S a p ys t) (x + p)
     work-chain n q a o x p ys t g e = work-shape S L n x p ys t a g (rw e o)
 
     step-held : (n : ℕ) (segs : List Segment) (rows : List Row) (q : Question) (a : Answer) → ask S 0 segs ≡ some q → ProperFor S q a → Held n segs rows
@@ -199,6 +201,16 @@ module _ (S : Settings) (X Y : List Bool) (L : Limits S) (nX : length X ≤ maxB
       let l : length (part X 0 n) ≡ n = part-length S L X 0 n (omega arith) in
       rw (← e) (h .0, rw (zero-add n) at (one S L X 0 n ByBits Y (part X 0 n) (omega arith) l (settled-right S (part X 0 n) ByBits Y (part X 0 n) refl refl)))
 
+  -- a column's syndrome is at most its length
+  columns-most : (n x p b : ℕ) → n ≡ length X → Inside n (AskBurst x p b) → (j : ℕ) → j < b → getD (syndromes b (part X x p)) j 0 ≤ columnLength b j p
+  columns-most n x p b e i j h =
+      let j1 = i .1 in let b2 = i .2 in
+      let l = part-length S L X x p (omega arith) in
+      let c = column-length b (omega arith) j (part X x p) in
+      let m = syndrome-most (column b j (part X x p)) in
+      let c′ : length (column b j (part X x p)) ≡ columnLength b j p = c ∙ ap (columnLength b j) l in
+      rw (syndromes-at b (part X x p) j h) (omega arith)
+
   -- the holder's answers are proper
   answer-proper : (n : ℕ) (q : Question) → Inside n q → (n ≡ length X) ⊎ (q ≡ AskOpen (S .h) (S .key)) → ProperFor S q (honestAnswer S X q)
   unfolding hashOf
@@ -207,6 +219,8 @@ module _ (S : Settings) (X Y : List Bool) (L : Limits S) (nX : length X ≤ maxB
   answer-proper n (AskSyndrome x p) i (inl e) = let m = syndrome-most (part X x p) in let j = i .1 in let l = part-length S L X x p (omega arith) in record { of-kind = refl; values = (omega arith, hash-most S (part X x p)) }
   answer-proper n (AskSyndrome x p) i (inr e) = let z : _≡_ {A = ℕ} 0 1 = cc in absurd (omega arith)
   answer-proper n (AskBits x p) i (inl e) = let j = i .1 in record { of-kind = refl; values = (part-length S L X x p (omega arith), omega arith) }
+  answer-proper n (AskBurst x p b) i (inl e) = record { of-kind = refl; values = record { many = syndromes-length b (part X x p); each = columns-most n x p b e i; hash = hash-most S (part X x p) } }
+  answer-proper n (AskBurst x p b) i (inr e) = let z : _≡_ {A = ℕ} 0 1 = cc in absurd (omega arith)
   answer-proper n (AskBits x p) i (inr e) = let z : _≡_ {A = ℕ} 0 1 = cc in absurd (omega arith)
 
   true-size : (s : Run) (q : Question) → Truth S X s → question S s ≡ some q → (sizeOfRun s ≡ length X) ⊎ (q ≡ AskOpen (S .h) (S .key))

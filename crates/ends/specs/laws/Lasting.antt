@@ -36,7 +36,7 @@ at-here : (x z y : ℕ) (r : List Segment) (s : Segment) → x ≡ z → At x r 
 at-here x z y r s e h = rw e at h
 
 module _ (S : Settings) (a : Answer) (P : ℕ → Segment → Type 0) where
-  step-at : (q : Question) → ((x p : ℕ) (ys : List Bool) (t : Stage) → P x (waiting p ys t) → asks S x p t ≡ q → total span (work S a p ys t) ≡ p)
+  step-at : (q : Question) → ((x p : ℕ) (ys : List Bool) (t : Stage) → P x (waiting p ys t) → asks S x p (length ys) t ≡ q → total span (work S a p ys t) ≡ p)
       → (x e : ℕ) (segs : List Segment) → Chain P x segs e → ask S x segs ≡ some q → (y : ℕ) (w : How) (ys b : List Bool) → At x segs y (settled w ys b) → At x (step S a segs) y (settled w ys b)
   step-at q k x e [] h i y w ys b c = absurd c
   step-at q k x e (dropped zs ∷ r) h i y w ys b (inl c) = let z : _≡_ {A = ℕ} 0 1 = let d = c .1 in cc in absurd (omega arith)

@@ -13,7 +13,7 @@ use Rattle.strings.specs.declared.Refusal.the-variants.{BadSetting, BadString, 
 use Rattle.strings.specs.declared.settings.Settings.{Settings}
 use Rattle.messages.specs.Answers.{answerBytes, readAnswer}
 use Rattle.messages.specs.Kinds.{kindAt}
-use Rattle.messages.specs.Questions.{fieldsAt, questionKind, questionLength}
+use Rattle.messages.specs.Questions.{fieldsAt, questionBurst, questionKind, questionLength}
 use Rattle.messages.specs.declared.Question.{Question}
 use Rattle.messages.specs.laws.RefusalLaws.{answer-numbered, fields-numbered, kind-at-numbered}
 use Rattle.ends.specs.HolderCall.{answersTo, holderCall, inTurn, ofKind, sameBitCount, sends}
@@ -45,5 +45,5 @@ call-numbered st y bits msg capacities = numbered-unless (stringRule y bits && e
     go : (o : Option Question) → Numbered (awaits st y msg capacities o)
     go none = numbered-refusal OutOfTurn
     go (some q) =
-        numbered-then (readAnswer (questionKind q) (questionLength q) (st .settings .h) msg) (given st y msg capacities) (answer-numbered (questionKind q) (questionLength q) (st .settings .h) msg) (λ a.
+        numbered-then (readAnswer (questionKind q) (questionLength q) (questionBurst q) (st .settings .h) msg) (given st y msg capacities) (answer-numbered (questionKind q) (questionLength q) (questionBurst q) (st .settings .h) msg) (λ a.
         numbered-unless (enoughFor st (bitsKnown st a) capacities) BufferTooShort _ (numbered-value _))

@@ -1,49 +1,66 @@
 -- What a settled piece has of the bits of X.
-use mathlib.Core.Path.{_≡_, refl, ap}
+use mathlib.Core.Path.{_≡_, refl, ap, subst, sym, _∙_}
 use mathlib.Core.Bool.{Bool, true, false, _||_}
 use mathlib.Core.List.{List, [], _∷_}
 use mathlib.Core.Option.{Option, none, some}
 use Prim.Native.Nat.{ℕ, zero, suc, _+_, _-_, _*_, _≤_, _<_}
 use native.Mathlib.Omega.{arith}
 use lib.ListN.{length, take, drop, length-take, length-drop}
-use lib.Dec.{ltb, eqb}
-use borrow.Author.Tests.{eqb-true, ltb-false}
+use lib.Dec.{ltb, eqb, leb}
+use borrow.Author.Tests.{eqb-true, ltb-false, leb-true}
 use Rattle.codes.specs.Repair.{Deletion, putIn, takeOut}
 use Rattle.codes.specs.laws.RepairLaws.{deletion-length, put-in-found, put-in-length, put-in-repairs, take-out-found, take-out-length, take-out-repairs}
 use Rattle.codes.specs.Syndrome.{syndrome}
-use Rattle.ends.specs.Anchors.{part, place}
+use Rattle.ends.specs.Anchors.{part, place, distance}
 use Rattle.strings.specs.SettingLimits.{Limits}
 use Rattle.ends.specs.Runs.{honestAnswer}
 use Rattle.ends.specs.laws.SegmentLaws.{Chain}
-use Rattle.ends.specs.Segments.{Effect, Segment, asks, begin, dropped, effect, firstStage, hashOf, laterStage, made, placed, retry, settled, span, tooSmall, trial, trialOf, waiting, work, afterAnchor, offset}
+use Rattle.ends.specs.Segments.{Effect, Segment, asks, begin, dropped, effect, firstStage, hashOf, laterStage, made, placed, retry, settled, span, tooSmall, trial, trialOf, waiting, work, afterAnchor, offset, isBurst}
 use Rattle.ends.specs.declared.How.{How}
-use Rattle.ends.specs.declared.How.the-variants.{ByAnchor, ByBits, ByHash, ByPutIn, ByTakeOut}
+use Rattle.ends.specs.declared.How.the-variants.{ByAnchor, ByBits, ByHash, ByPutIn, ByTakeOut, ByBurst}
 use Rattle.strings.specs.declared.settings.Settings.{Settings}
-use Rattle.strings.specs.laws.Tests.{by-test}
-use Rattle.ends.specs.Claims.{Agrees, Near, Settled, oneAdded, oneLost, unchanged}
-use Rattle.ends.specs.declared.Stage.the-variants.{Hashing, PuttingIn, TakingOut, Anchor, AllBits}
+use Rattle.strings.specs.laws.Tests.{by-test, and-left, and-right}
+use Rattle.ends.specs.Claims.{Agrees, Near, Settled, runGained, runLost, unchanged}
+use Rattle.ends.specs.declared.Stage.the-variants.{Hashing, PuttingIn, TakingOut, Anchor, AllBits, Columns}
 use Rattle.ends.specs.declared.Attempt.{Attempt}
 use Rattle.ends.specs.declared.Attempt.the-variants.{First, Second, Third}
 use Rattle.ends.specs.declared.Stage.{Stage}
+use Rattle.codes.specs.Columns.{repairRun, syndromes, RunLost, RunApart}
+use Rattle.codes.specs.laws.ColumnLaws.{lost-run-repaired, gained-run-repaired, run-lost-length, repair-run-found, syndromes-length, run-one}
+use native.Mathlib.Decide.{decLe}
+use mathlib.Core.Logic.{inl, inr}
 
 -- a right piece, whatever its copy
-pub settled-right : (S : Settings) (x : List Bool) (w : How) (ys b : List Bool) → Agrees S w x b → b ≡ x → Settled S x w ys b
+pub settled-right : (S : Settings) (x : List Bool) (w : How) (ys b : List Bool) → Agrees S w x ys b → b ≡ x → Settled S x w ys b
 settled-right S x w ys b a e = record { len = ap length e; agrees = a; exact = λ n. e }
 
 near-same : (x y : List Bool) → length y ≡ length x → Near x y → y ≡ x
 near-same x y e (unchanged h) = h
-near-same x y e (oneLost d) = let k = deletion-length y x d in absurd (omega arith)
-near-same x y e (oneAdded d) = let k = deletion-length x y d in absurd (omega arith)
+near-same x y e (runLost B l d) = let k = run-lost-length B y x d in absurd (omega arith)
+near-same x y e (runGained B l d) = let k = run-lost-length B x y d in absurd (omega arith)
 
 near-lost : (x y : List Bool) → length y + 1 ≡ length x → Near x y → Deletion y x
 near-lost x y e (unchanged h) = let k : length y ≡ length x = ap length h in absurd (omega arith)
-near-lost x y e (oneLost d) = d
-near-lost x y e (oneAdded d) = let k = deletion-length x y d in absurd (omega arith)
+near-lost x y e (runLost B l d) = let k = run-lost-length B y x d in run-one y x (subst (RunLost y x) (omega arith) d)
+near-lost x y e (runGained B l d) = let k = run-lost-length B x y d in absurd (omega arith)
 
 near-added : (x y : List Bool) → length y ≡ length x + 1 → Near x y → Deletion x y
 near-added x y e (unchanged h) = let k : length y ≡ length x = ap length h in absurd (omega arith)
-near-added x y e (oneLost d) = let k = deletion-length y x d in absurd (omega arith)
-near-added x y e (oneAdded d) = d
+near-added x y e (runLost B l d) = let k = run-lost-length B y x d in absurd (omega arith)
+near-added x y e (runGained B l d) = let k = run-lost-length B x y d in run-one x y (subst (RunLost x y) (omega arith) d)
+
+-- one run lost or gained, and lengths B apart: the columns' repair is right
+near-run : (x y : List Bool) → 2 ≤ distance (length x) (length y) → Near x y
+    → repairRun (distance (length x) (length y)) (length x) (syndromes (distance (length x) (length y)) x) y ≡ some x
+near-run x y h (unchanged e) = let k : length y ≡ length x = ap length e in absurd (omega arith)
+near-run x y h (runLost B l d) =
+    let k = run-lost-length B y x d in
+    let e : B ≡ distance (length x) (length y) = omega arith in
+    lost-run-repaired (distance (length x) (length y)) y x (omega arith) (subst (RunLost y x) e d)
+near-run x y h (runGained B l d) =
+    let k = run-lost-length B x y d in
+    let e : B ≡ distance (length x) (length y) = omega arith in
+    gained-run-repaired (distance (length x) (length y)) y x (omega arith) (subst (RunLost x y) e d)
 
 -- ---- what is known of a waiting piece
 -- an anchor at offset s of a piece of length p
@@ -61,6 +78,7 @@ abbrev pub StageOk : Settings → ℕ → ℕ → Stage → Type 0
 StageOk S p q Hashing = q ≡ p
 StageOk S p q PuttingIn = q + 1 ≡ p
 StageOk S p q TakingOut = q ≡ p + 1
+StageOk S p q Columns = (2 ≤ distance p q) × (distance p q ≤ 32)
 StageOk S p q (Anchor i) = Long S p
 StageOk S p q AllBits = Unit {0}
 
@@ -74,6 +92,19 @@ pub or-false : (a b : Bool) → (a || b) ≡ false → (a ≡ false) × (b ≡ f
 or-false true b e = let z : _≡_ {A = ℕ} 0 1 = cc in absurd (omega arith)
 or-false false true e = let z : _≡_ {A = ℕ} 0 1 = cc in absurd (omega arith)
 or-false false false e = (refl, refl)
+
+-- the lengths of a piece and its copy are as far apart as they are
+pub run-apart : (p q : ℕ) → RunApart (distance p q) q p
+run-apart p q = go (decLe q p)
+  where
+    go : Dec (q ≤ p) → RunApart (distance p q) q p
+    go (yes h) = inl (omega arith)
+    go (no h) = inr (omega arith)
+
+pub burst-is : (p q : ℕ) → isBurst p q ≡ true → (2 ≤ distance p q) × (distance p q ≤ 32)
+unfolding isBurst
+burst-is p q e =
+    (leb-true 2 (distance p q) (and-left (leb 2 (distance p q)) (leb (distance p q) 32) e), leb-true (distance p q) 32 (and-right (leb 2 (distance p q)) (leb (distance p q) 32) e))
 
 module _ (S : Settings) (L : Limits S) where
   pub long-is : (p q : ℕ) → tooSmall S p q ≡ false → Long S p
@@ -98,7 +129,8 @@ module _ (S : Settings) (L : Limits S) where
   first-ok p q =
       by-test (StageOk S p q) (eqb q p) (eqb-true q p) (λ e.
       by-test (StageOk S p q) (eqb (q + 1) p) (eqb-true (q + 1) p) (λ f.
-      by-test (StageOk S p q) (eqb q (p + 1)) (eqb-true q (p + 1)) (λ g. later-ok p q)))
+      by-test (StageOk S p q) (eqb q (p + 1)) (eqb-true q (p + 1)) (λ g.
+      by-test (StageOk S p q) (isBurst p q) {a = Columns} (burst-is p q) (λ i. later-ok p q))))
 
   pub begin-span : (p : ℕ) (ys : List Bool) → span (begin S p ys) ≡ p
   unfolding begin
@@ -161,7 +193,7 @@ module _ (S : Settings) (L : Limits S) where
         )
 
     pub work-ok : (x p : ℕ) (ys : List Bool) (t : Stage) → Good S X x (waiting p ys t)
-        → Chain (Good S X) x (work S (honestAnswer S X (asks S x p t)) p ys t) (x + p)
+        → Chain (Good S X) x (work S (honestAnswer S X (asks S x p (length ys) t)) p ys t) (x + p)
     unfolding effect hashOf
     work-ok x p ys Hashing h =
         let l = part-length x p (h .0) in let e = h .1 in
@@ -188,6 +220,19 @@ module _ (S : Settings) (L : Limits S) where
             len = omega arith;
             agrees = (take-out-found a ys b k .1, q);
             exact = λ d. let r = take-out-repairs (part X x p) ys (near-added (part X x p) ys (omega arith) d) in cc;
+          },
+        ))
+    work-ok x p ys Columns h =
+        let l = part-length x p (h .0) in
+        let B = distance p (length ys) in
+        let a = syndromes B (part X x p) in
+        trialOf-ok x p ByBurst ys (repairRun (distance p (length ys)) p (syndromes (distance p (length ys)) (part X x p)) ys) (h .0) (h .2) (λ b k.
+        let f = repair-run-found (distance p (length ys)) p (syndromes (distance p (length ys)) (part X x p)) ys b (omega (arith, h .1 .0)) (syndromes-length (distance p (length ys)) (part X x p)) (run-apart p (length ys)) k in (
+          f .0,
+          λ q. record {
+            len = f .0 ∙ sym l;
+            agrees = rw l (f .1, q);
+            exact = λ d. let r = near-run (part X x p) ys (rw l (h .1 .0)) d in let r′ = rw l at r in cc;
           },
         ))
     work-ok x p ys AllBits h =

@@ -36,7 +36,7 @@ chain-end P x e (s ∷ l) h = let k = chain-end P (x + span s) e l (h .1) in ome
 
 -- ---- one step, from what an answer makes of the piece that waits
 module _ (S : Settings) (a : Answer) (P : ℕ → Segment → Type 0) where
-  pub step-chain : (q : Question) → ((x p : ℕ) (ys : List Bool) (t : Stage) → P x (waiting p ys t) → asks S x p t ≡ q → Chain P x (work S a p ys t) (x + p))
+  pub step-chain : (q : Question) → ((x p : ℕ) (ys : List Bool) (t : Stage) → P x (waiting p ys t) → asks S x p (length ys) t ≡ q → Chain P x (work S a p ys t) (x + p))
       → (x e : ℕ) (segs : List Segment) → Chain P x segs e → ask S x segs ≡ some q → Chain P x (step S a segs) e
   step-chain q w x e [] h k = let z : _≡_ {A = ℕ} 0 1 = cc in absurd (omega arith)
   step-chain q w x e (dropped ys ∷ r) h k = (h .0, rw add-zero (step-chain q w x e r (rw add-zero at (h .1)) k))
@@ -57,7 +57,7 @@ pub record Found (S : Settings) (P : ℕ → Segment → Type 0) (q : Question) 
   pub copy : List Bool
   pub stage : Stage
   pub holds : P start (waiting len copy stage)
-  pub is : asks S start len stage ≡ q
+  pub is : asks S start len (length copy) stage ≡ q
 
 pub found : (S : Settings) (P : ℕ → Segment → Type 0) (q : Question) (x e : ℕ) (segs : List Segment) → Chain P x segs e → ask S x segs ≡ some q → Found S P q
 found S P q x e [] h k = let z : _≡_ {A = ℕ} 0 1 = cc in absurd (omega arith)
@@ -96,7 +96,7 @@ rowsOf-append x (settled m ys b ∷ l) r = rw (← add-assoc) (ap (λ (k : List 
 
 -- the rows after a step are those before it and the new ones, in another order
 module _ (S : Settings) (a : Answer) (P : ℕ → Segment → Type 0) (g : Row → ℕ) where
-  pub step-rows : (q : Question) → ((x p : ℕ) (ys : List Bool) (t : Stage) → P x (waiting p ys t) → asks S x p t ≡ q → total span (work S a p ys t) ≡ p)
+  pub step-rows : (q : Question) → ((x p : ℕ) (ys : List Bool) (t : Stage) → P x (waiting p ys t) → asks S x p (length ys) t ≡ q → total span (work S a p ys t) ≡ p)
       → (x e : ℕ) (segs : List Segment) → Chain P x segs e → ask S x segs ≡ some q → rowSum g (rowsOf x (step S a segs)) ≡ rowSum g (newRows S a x segs) + rowSum g (rowsOf x segs)
   step-rows q w x e [] h k = refl
   step-rows q w x e (dropped ys ∷ r) h k = step-rows q w x e r (rw add-zero at (h .1)) k

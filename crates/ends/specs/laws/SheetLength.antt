@@ -22,7 +22,7 @@ use Rattle.ends.specs.Soundness.{rowsLeft}
 use Rattle.ends.specs.States.{held, top}
 use Rattle.ends.specs.laws.Steps.{step-opening, step-pieces, step-whole}
 use Rattle.ends.specs.declared.How.{How}
-use Rattle.ends.specs.declared.How.the-variants.{ByHash, ByPutIn, ByTakeOut, ByAnchor, ByBits}
+use Rattle.ends.specs.declared.How.the-variants.{ByHash, ByPutIn, ByTakeOut, ByAnchor, ByBits, ByBurst}
 use Rattle.ends.specs.declared.Piece.{Piece}
 use Rattle.ends.specs.declared.Row.{Row}
 use Rattle.ends.specs.declared.Stage.{Stage}
@@ -45,14 +45,15 @@ effect-rows st size (splits s r b) = omega arith
 pub record SmallRow (r : Row) : Type 0 where
   pub start-most : r .start ≤ maxBits
   pub len-most : r .len ≤ maxBits
-  pub how-most : r .how ≤ 5
+  pub how-most : r .how ≤ 6
 
-how-small : (w : How) → howNumber w ≤ 5
+how-small : (w : How) → howNumber w ≤ 6
 how-small ByHash = omega arith
 how-small ByPutIn = omega arith
 how-small ByTakeOut = omega arith
 how-small ByAnchor = omega arith
 how-small ByBits = omega arith
+how-small ByBurst = omega arith
 
 effect-row : (st : Rebuilder) (size : ℕ) (t : Stage) (e : Effect) → top st .x + top st .p ≤ maxBits → st .settings .m ≤ 64 → Sane (st .settings) (top st .p) t e
     → SmallRow (changeRow (effectStep st size e .sheet))

@@ -11,14 +11,14 @@ use borrow.Author.Tests.{eqb-true, ltb-true, leb-true, le-leb, lt-ltb, not-true}
 use Rattle.ends.specs.Soundness.{bound, blankFrom, inOrder, isBlank, pieceFits, stageFits}
 use Rattle.strings.specs.SettingLimits.{Limits}
 use Rattle.ends.specs.laws.Moves.{Blank}
-use Rattle.ends.specs.laws.Right.{StageOk, long-is}
-use Rattle.ends.specs.Segments.{laterStage, tooSmall, afterAnchor, nextStage, firstStage}
+use Rattle.ends.specs.laws.Right.{StageOk, long-is, burst-is}
+use Rattle.ends.specs.Segments.{laterStage, tooSmall, afterAnchor, nextStage, firstStage, isBurst}
 use Rattle.ends.specs.States.{noPiece}
 use Rattle.ends.specs.declared.Piece.{Piece}
 use Rattle.strings.specs.declared.settings.Settings.{Settings}
 use Rattle.strings.specs.laws.Tests.{and-left, and-right, both, and-true}
 use Rattle.ends.specs.declared.Stage.{Stage}
-use Rattle.ends.specs.declared.Stage.the-variants.{Hashing, PuttingIn, TakingOut, Anchor, AllBits}
+use Rattle.ends.specs.declared.Stage.the-variants.{Hashing, PuttingIn, TakingOut, Anchor, AllBits, Columns}
 use Rattle.ends.specs.declared.Attempt.{Attempt}
 use Rattle.ends.specs.declared.Attempt.the-variants.{First, Second, Third}
 
@@ -103,13 +103,15 @@ later-fits S p q = go (tooSmall S p q) refl
 
 pub first-fits : (S : Settings) (p q : ℕ) → stageFits S p q (firstStage S p q) ≡ true
 unfolding stageFits firstStage
-first-fits S p q = go (eqb q p) refl (eqb (q + 1) p) refl (eqb q (p + 1)) refl
+first-fits S p q = go (eqb q p) refl (eqb (q + 1) p) refl (eqb q (p + 1)) refl (isBurst p q) refl
   where
-    go : (a : Bool) → eqb q p ≡ a → (b : Bool) → eqb (q + 1) p ≡ b → (c : Bool) → eqb q (p + 1) ≡ c → stageFits S p q (cond a Hashing (cond b PuttingIn (cond c TakingOut (laterStage S p q)))) ≡ true
-    go true e b f c g = e
-    go false e true f c g = f
-    go false e false f true g = g
-    go false e false f false g = later-fits S p q
+    go : (a : Bool) → eqb q p ≡ a → (b : Bool) → eqb (q + 1) p ≡ b → (c : Bool) → eqb q (p + 1) ≡ c → (d : Bool) → isBurst p q ≡ d
+        → stageFits S p q (cond a Hashing (cond b PuttingIn (cond c TakingOut (cond d Columns (laterStage S p q))))) ≡ true
+    go true e b f c g d h = e
+    go false e true f c g d h = f
+    go false e false f true g d h = g
+    go false e false f false g true h = h
+    go false e false f false g false h = later-fits S p q
 
 after-fits : (S : Settings) (p q : ℕ) (i : Attempt) → stageFits S p q (Anchor i) ≡ true → stageFits S p q (afterAnchor i) ≡ true
 unfolding stageFits
@@ -121,6 +123,7 @@ pub next-fits : (S : Settings) (p q : ℕ) (t : Stage) → stageFits S p q t ≡
 next-fits S p q Hashing e = later-fits S p q
 next-fits S p q PuttingIn e = later-fits S p q
 next-fits S p q TakingOut e = later-fits S p q
+next-fits S p q Columns e = later-fits S p q
 next-fits S p q (Anchor i) e = after-fits S p q i e
 next-fits S p q AllBits e = e
 
@@ -130,5 +133,6 @@ unfolding stageFits
 fits-stage S L p q Hashing e = eqb-true q p e
 fits-stage S L p q PuttingIn e = eqb-true (q + 1) p e
 fits-stage S L p q TakingOut e = eqb-true q (p + 1) e
+fits-stage S L p q Columns e = burst-is p q e
 fits-stage S L p q (Anchor i) e = long-is S L p q (not-true (tooSmall S p q) e)
 fits-stage S L p q AllBits e = tt

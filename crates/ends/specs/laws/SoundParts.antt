@@ -27,7 +27,7 @@ use Rattle.ends.specs.declared.Rebuilder.{Rebuilder}
 use Rattle.strings.specs.declared.settings.Settings.{Settings}
 use Rattle.strings.specs.laws.Tests.{both, and-true}
 use Rattle.ends.specs.declared.Stage.{Stage}
-use Rattle.ends.specs.declared.Stage.the-variants.{Hashing, PuttingIn, TakingOut, Anchor, AllBits}
+use Rattle.ends.specs.declared.Stage.the-variants.{Hashing, PuttingIn, TakingOut, Anchor, AllBits, Columns}
 use Rattle.ends.specs.declared.Attempt.{Attempt}
 use Rattle.ends.specs.declared.Phase.{Phase}
 use Rattle.ends.specs.declared.Phase.the-variants.{AtOpening, AtPieces, AtWhole}
@@ -192,27 +192,28 @@ top-is st k pos =
 pub stage-long : (S : Settings) → Limits S → (p q : ℕ) (t : Stage) → stageFits S p q t ≡ true → (i : Attempt) → t ≡ Anchor i → Long S p
 stage-long S L p q t e i f = fits-stage S L p q (Anchor i) (rw f at e)
 
-pub ask-inside : (st : Rebuilder) → Limits (st .settings) → TopIs st → Inside (st .n) (asks (st .settings) (top st .x) (top st .p) (st .stage))
+pub ask-inside : (st : Rebuilder) → Limits (st .settings) → TopIs st → Inside (st .n) (asks (st .settings) (top st .x) (top st .p) (top st .q) (st .stage))
 ask-inside st L k = go (st .stage) (fits-stage (st .settings) L (top st .p) (top st .q) (st .stage) (k .stage))
   where
-    go : (t : Stage) → StageOk (st .settings) (top st .p) (top st .q) t → Inside (st .n) (asks (st .settings) (top st .x) (top st .p) t)
+    go : (t : Stage) → StageOk (st .settings) (top st .p) (top st .q) t → Inside (st .n) (asks (st .settings) (top st .x) (top st .p) (top st .q) t)
     go Hashing o = (k .some, k .inX)
     go PuttingIn o = (k .some, k .inX)
     go TakingOut o = (k .some, k .inX)
+    go Columns o = (k .some, k .inX, o .0, o .1)
     go (Anchor i) o = let r = offset-fits (st .settings) L (top st .p) i o .inside in let a = k .inX in let b = L .m-least in (omega arith, omega arith)
     go AllBits o = (k .some, k .inX)
 
 -- ---- a state's phase, and the question that it then asks
 pub data PhaseOf (st : Rebuilder) (q : Question) : Type 0 where
   isOpening : st .phase ≡ AtOpening → OpeningIs st → AskOpen (st .settings .h) (st .settings .key) ≡ q → PhaseOf st q
-  isPieces : st .phase ≡ AtPieces → PiecesIs st → 0 < st .waiting → asks (st .settings) (top st .x) (top st .p) (st .stage) ≡ q → PhaseOf st q
+  isPieces : st .phase ≡ AtPieces → PiecesIs st → 0 < st .waiting → asks (st .settings) (top st .x) (top st .p) (top st .q) (st .stage) ≡ q → PhaseOf st q
   isWhole : st .phase ≡ AtWhole → WholeIs st → AskBits 0 (st .n) ≡ q → PhaseOf st q
 
 pub phase-of : (st : Rebuilder) (q : Question) → phaseSound st ≡ true → planned st ≡ some q → PhaseOf st q
 unfolding planned
 phase-of st q e k = go (st .phase) refl e k
   where
-    asked : (w : Bool) → cond w none (some (asks (st .settings) (top st .x) (top st .p) (st .stage))) ≡ some q → (w ≡ false) × (asks (st .settings) (top st .x) (top st .p) (st .stage) ≡ q)
+    asked : (w : Bool) → cond w none (some (asks (st .settings) (top st .x) (top st .p) (top st .q) (st .stage))) ≡ some q → (w ≡ false) × (asks (st .settings) (top st .x) (top st .p) (top st .q) (st .stage) ≡ q)
     asked true f = let z : _≡_ {A = ℕ} 0 1 = cc in absurd (omega arith)
     asked false f = (refl, cc)
 

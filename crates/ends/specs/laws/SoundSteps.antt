@@ -32,7 +32,7 @@ use Rattle.strings.specs.Bits.{range, maxBits}
 use Rattle.strings.specs.laws.RangeLaws.{range-length}
 use Rattle.strings.specs.laws.Tests.{by-test}
 use Rattle.ends.specs.laws.SoundParts.{StackIs, Framed, sound-is, is-sound, PiecesIs, is-pieces, WholeIs, is-whole, phase-pieces, phase-whole, OpeningIs, top-is, ask-inside, PhaseOf, phase-of, isOpening, isPieces, isWhole}
-use Rattle.ends.specs.declared.Stage.the-variants.{Hashing, PuttingIn, TakingOut, Anchor, AllBits}
+use Rattle.ends.specs.declared.Stage.the-variants.{Hashing, PuttingIn, TakingOut, Anchor, AllBits, Columns}
 use Rattle.ends.specs.declared.Attempt.the-variants.{First, Second, Third}
 use Rattle.ends.specs.declared.Phase.{Phase}
 use Rattle.ends.specs.declared.Phase.the-variants.{AtPieces, AtWhole}
@@ -180,6 +180,7 @@ unfolding laterStage
 next-later S p q Hashing h = by-test (λ (t : Stage). 1 ≤ asksBefore t) (tooSmall S p q) {a = AllBits} {b = Anchor First} (λ e. lit≤ tt) (λ e. lit≤ tt)
 next-later S p q PuttingIn h = by-test (λ (t : Stage). 1 ≤ asksBefore t) (tooSmall S p q) {a = AllBits} {b = Anchor First} (λ e. lit≤ tt) (λ e. lit≤ tt)
 next-later S p q TakingOut h = by-test (λ (t : Stage). 1 ≤ asksBefore t) (tooSmall S p q) {a = AllBits} {b = Anchor First} (λ e. lit≤ tt) (λ e. lit≤ tt)
+next-later S p q Columns h = by-test (λ (t : Stage). 1 ≤ asksBefore t) (tooSmall S p q) {a = AllBits} {b = Anchor First} (λ e. lit≤ tt) (λ e. lit≤ tt)
 next-later S p q (Anchor First) h = lit≤ tt
 next-later S p q (Anchor Second) h = lit≤ tt
 next-later S p q (Anchor Third) h = lit≤ tt
@@ -201,6 +202,7 @@ unfolding effect
 low-stage S a p ys Hashing = any-low Hashing (lit≤ tt) (effect S a p ys Hashing)
 low-stage S a p ys PuttingIn = any-low PuttingIn (lit≤ tt) (effect S a p ys PuttingIn)
 low-stage S a p ys TakingOut = any-low TakingOut (lit≤ tt) (effect S a p ys TakingOut)
+low-stage S a p ys Columns = any-low Columns (lit≤ tt) (effect S a p ys Columns)
 low-stage S a p ys (Anchor First) = any-low (Anchor First) (lit≤ tt) (effect S a p ys (Anchor First))
 low-stage S a p ys (Anchor Second) = any-low (Anchor Second) (lit≤ tt) (effect S a p ys (Anchor Second))
 low-stage S a p ys (Anchor Third) = any-low (Anchor Third) (lit≤ tt) (effect S a p ys (Anchor Third))

@@ -11,18 +11,19 @@ use lib.Dec.{ltb, eqb}
 use borrow.Author.Tests.{lt-ltb, ne-eqb}
 use Rattle.codes.specs.Repair.{putIn, takeOut}
 use Rattle.messages.specs.Answers.{Answer}
-use Rattle.ends.specs.Anchors.{place}
-use Rattle.ends.specs.Segments.{Effect, effect, firstStage, hashOf, laterStage, placed, retry, settles, splits, stays, theBits, theHash, theSyndrome, trial, trialOf, offset, afterAnchor, nextStage}
+use Rattle.ends.specs.Anchors.{place, distance}
+use Rattle.ends.specs.Segments.{Effect, effect, firstStage, hashOf, laterStage, placed, retry, settles, splits, stays, theBits, theHash, theSyndrome, trial, trialOf, offset, afterAnchor, nextStage, theSyndromes}
 use Rattle.ends.specs.States.{held, noPiece}
 use Rattle.ends.specs.laws.Store.{anyPiece, topStage}
 use Rattle.ends.specs.declared.How.{How}
-use Rattle.ends.specs.declared.How.the-variants.{ByHash, ByPutIn, ByTakeOut}
+use Rattle.ends.specs.declared.How.the-variants.{ByHash, ByPutIn, ByTakeOut, ByBurst}
 use Rattle.ends.specs.declared.Piece.{Piece}
 use Rattle.strings.specs.declared.settings.Settings.{Settings}
 use Rattle.strings.specs.laws.Tests.{by-test}
-use Rattle.ends.specs.declared.Stage.the-variants.{Hashing, PuttingIn, TakingOut, Anchor, AllBits}
+use Rattle.ends.specs.declared.Stage.the-variants.{Hashing, PuttingIn, TakingOut, Anchor, AllBits, Columns}
 use Rattle.ends.specs.declared.Attempt.{Attempt}
 use Rattle.ends.specs.declared.Stage.{Stage}
+use Rattle.codes.specs.Columns.{repairRun}
 
 -- ---- stages
 -- a piece that stays is at the next stage
@@ -48,6 +49,7 @@ module _ (S : Settings) (a : Answer) (p : ℕ) (ys : List Bool) where
   is-next Hashing = trial-next Hashing refl ByHash ys
   is-next PuttingIn = trialOf-next PuttingIn refl ByPutIn (putIn (theSyndrome a) ys)
   is-next TakingOut = trialOf-next TakingOut refl ByTakeOut (takeOut (theSyndrome a) ys)
+  is-next Columns = trialOf-next Columns refl ByBurst (repairRun (distance p (length ys)) p (theSyndromes a) ys)
   is-next (Anchor i) = placed-next (offset (S .m) p i) i (place (S .m) (S .k) p (offset (S .m) p i) ys (theBits a))
   is-next AllBits = tt
 

@@ -89,8 +89,8 @@ module _ (S : Settings) (Y : List Bool) (L : Limits S) where
       let ch′ : Chain (Shape S n) 0 (front ++ (waiting p ys t ∷ rest)) n = rw is at (h .tiles) in
       let g = chain-front (Shape S n) 0 n front (waiting p ys t ∷ rest) ch′ .0 in
       let k′ : ask S 0 (front ++ (waiting p ys t ∷ rest)) ≡ some q = rw is at k in
-      let k″ : some (asks S x₀ p t) ≡ some q = sym (ask-front S 0 front (waiting p ys t ∷ rest) w) ∙ k′ in
-      let d : asks S x₀ p t ≡ q = cc in
+      let k″ : some (asks S x₀ p (length ys) t) ≡ some q = sym (ask-front S 0 front (waiting p ys t ∷ rest) w) ∙ k′ in
+      let d : asks S x₀ p (length ys) t ≡ q = cc in
       let en = chain-end (Shape S n) x₀ (x₀ + p) (work S a p ys t) (work-chain S Y L n q a o x₀ p ys t g d) in
       let z : total span (work S a p ys t) ≡ p = omega arith in
       let rr = rows-within S 0 segs (ask-waits S q 0 segs k) in

@@ -13,7 +13,7 @@ use Rattle.codes.specs.Repair.{putIn, takeOut}
 use Rattle.messages.specs.Answers.{Answer}
 use Rattle.messages.specs.declared.Question.{Question}
 use Rattle.messages.specs.declared.Question.the-variants.{AskBits, AskOpen}
-use Rattle.ends.specs.Anchors.{placeDistance, fits, nearer, nearest, part, place, places}
+use Rattle.ends.specs.Anchors.{placeDistance, fits, nearer, nearest, part, place, places, distance}
 use Rattle.ends.specs.laws.Counts.{Sane, begin-norow, sane}
 use Rattle.ends.specs.laws.Invariant.{Inv, work-chain}
 use Rattle.ends.specs.laws.Kept.{blank-length}
@@ -22,19 +22,20 @@ use Rattle.ends.specs.laws.Right.{begin-span}
 use Rattle.ends.specs.Runs.{Run, advance, bitsOf, blank, copies, judge, opening, question, sizeOf, string, whole, working}
 use Rattle.ends.specs.laws.SegmentLaws.{Chain, ask-waits, chain-end, copies-append}
 use Rattle.ends.specs.Claims.{total}
-use Rattle.ends.specs.Segments.{Effect, Segment, ask, asks, begin, dropped, effect, firstStage, hashOf, made, newRows, placed, retry, row, rowsOf, settled, settles, span, splits, stays, step, theBits, theHash, theSize, theSyndrome, trial, trialOf, waiting, waits, work, offset, afterAnchor}
+use Rattle.ends.specs.Segments.{Effect, Segment, ask, asks, begin, dropped, effect, firstStage, hashOf, made, newRows, placed, retry, row, rowsOf, settled, settles, span, splits, stays, step, theBits, theHash, theSize, theSyndrome, trial, trialOf, waiting, waits, work, offset, afterAnchor, theSyndromes}
 use Rattle.ends.specs.laws.Shape.{ProperFor, Shape}
 use Rattle.ends.specs.declared.How.{How}
-use Rattle.ends.specs.declared.How.the-variants.{ByAnchor, ByBits, ByHash, ByPutIn, ByTakeOut}
+use Rattle.ends.specs.declared.How.the-variants.{ByAnchor, ByBits, ByHash, ByPutIn, ByTakeOut, ByBurst}
 use Rattle.ends.specs.declared.Piece.{Piece}
 use Rattle.ends.specs.declared.Row.{Row}
 use Rattle.strings.specs.declared.settings.Settings.{Settings}
 use Rattle.strings.specs.laws.Tests.{by-test, true-false}
 use Rattle.strings.specs.laws.WriteLaws.{over}
-use Rattle.ends.specs.declared.Stage.the-variants.{Anchor, AllBits, Hashing, PuttingIn, TakingOut}
+use Rattle.ends.specs.declared.Stage.the-variants.{Anchor, AllBits, Hashing, PuttingIn, TakingOut, Columns}
 use Rattle.ends.specs.declared.Phase.{Phase}
 use Rattle.ends.specs.declared.Phase.the-variants.{AtOpening, AtPieces, AtWhole}
 use Rattle.ends.specs.declared.Stage.{Stage}
+use Rattle.codes.specs.Columns.{repairRun}
 
 -- ---- the state in numbers: a device of the proofs between the runs and the state struct
 -- the phase, n, the counted bytes, the leftmost piece's stage, the waiting pieces with the leftmost first, the string's bits, the rows
@@ -93,7 +94,7 @@ stepStore S Y (store AtWhole n c t st str rows) a = store AtPieces n (c + sizeOf
 
 abbrev pub askTop : Settings → Stage → List Piece → Option Question
 askTop S t [] = none
-askTop S t (pc ∷ st) = some (asks S (pc .x) (pc .p) t)
+askTop S t (pc ∷ st) = some (asks S (pc .x) (pc .p) (pc .q) t)
 
 abbrev pub askStore : Settings → Store → Option Question
 askStore S (store AtOpening n c t st str rows) = some (AskOpen (S .h) (S .key))
@@ -294,6 +295,7 @@ module _ (S : Settings) where
   landed a p ys Hashing = trial-landed (theHash a) p ByHash ys ys
   landed a p ys PuttingIn = trialOf-landed (theHash a) p ByPutIn ys (putIn (theSyndrome a) ys)
   landed a p ys TakingOut = trialOf-landed (theHash a) p ByTakeOut ys (takeOut (theSyndrome a) ys)
+  landed a p ys Columns = trialOf-landed (theHash a) p ByBurst ys (repairRun (distance p (length ys)) p (theSyndromes a) ys)
   landed a p ys AllBits = tt
   landed a p ys (Anchor i) = go (place (S .m) (S .k) p (offset (S .m) p i) ys (theBits a)) (place-within S p (offset (S .m) p i) ys (theBits a))
     where
@@ -471,8 +473,8 @@ module _ (S : Settings) (Y : List Bool) (L : Limits S) where
       let ch′ : Chain (Shape S n) 0 (front ++ (waiting p ys t ∷ rest)) n = rw is at ch in
       let g = chain-front (Shape S n) 0 n front (waiting p ys t ∷ rest) ch′ .0 in
       let k′ : ask S 0 (front ++ (waiting p ys t ∷ rest)) ≡ some q = rw is at k in
-      let k″ : some (asks S x₀ p t) ≡ some q = sym (ask-front S 0 front (waiting p ys t ∷ rest) w) ∙ k′ in
-      let d : asks S x₀ p t ≡ q = cc in
+      let k″ : some (asks S x₀ p (length ys) t) ≡ some q = sym (ask-front S 0 front (waiting p ys t ∷ rest) w) ∙ k′ in
+      let d : asks S x₀ p (length ys) t ≡ q = cc in
       let en = chain-end (Shape S n) x₀ (x₀ + p) (work S a p ys t) (work-chain S Y L n q a o x₀ p ys t g d) in
       let z : total span (work S a p ys t) ≡ p = omega arith in
       rw is (

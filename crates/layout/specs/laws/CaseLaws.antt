@@ -8,7 +8,7 @@ use Rattle.ends.specs.declared.Attempt.the-variants.{First, Second, Third}
 use Rattle.ends.specs.declared.Phase.{Phase}
 use Rattle.ends.specs.declared.Phase.the-variants.{AtOpening, AtPieces, AtWhole}
 use Rattle.ends.specs.declared.Stage.{Stage}
-use Rattle.ends.specs.declared.Stage.the-variants.{Hashing, PuttingIn, TakingOut, Anchor, AllBits}
+use Rattle.ends.specs.declared.Stage.the-variants.{Hashing, PuttingIn, TakingOut, Anchor, AllBits, Columns}
 use Rattle.layout.specs.Layout.{openedNumber, openedOf, phaseNumber, phaseOf, stageNumber, stageOf}
 
 pub opened-most : (b : Bool) → openedNumber b ≤ 1
@@ -30,7 +30,7 @@ phase-back AtOpening = refl
 phase-back AtPieces = refl
 phase-back AtWhole = refl
 
-pub stage-most : (t : Stage) → stageNumber t ≤ 6
+pub stage-most : (t : Stage) → stageNumber t ≤ 7
 stage-most Hashing = omega arith
 stage-most PuttingIn = omega arith
 stage-most TakingOut = omega arith
@@ -38,6 +38,7 @@ stage-most (Anchor First) = omega arith
 stage-most (Anchor Second) = omega arith
 stage-most (Anchor Third) = omega arith
 stage-most AllBits = omega arith
+stage-most Columns = omega arith
 
 pub stage-back : (t : Stage) → stageOf (stageNumber t) ≡ t
 unfolding stageOf
@@ -48,6 +49,7 @@ stage-back (Anchor First) = refl
 stage-back (Anchor Second) = refl
 stage-back (Anchor Third) = refl
 stage-back AllBits = refl
+stage-back Columns = refl
 
 -- ---- for the code
 pub phase-known : (v : ℕ) (p : Phase) → v ≡ phaseNumber p → p ≡ phaseOf v
@@ -60,6 +62,6 @@ phase-last v a b = rw (ne-eqb v 0 a, ne-eqb v 1 b) refl
 pub stage-known : (v : ℕ) (t : Stage) → v ≡ stageNumber t → t ≡ stageOf v
 stage-known v t e = rw e (sym (stage-back t))
 
-pub stage-last : (v : ℕ) → (v ≡ 0 → ⊥) → (v ≡ 1 → ⊥) → (v ≡ 2 → ⊥) → (v ≡ 3 → ⊥) → (v ≡ 4 → ⊥) → (v ≡ 5 → ⊥) → AllBits ≡ stageOf v
+pub stage-last : (v : ℕ) → (v ≡ 0 → ⊥) → (v ≡ 1 → ⊥) → (v ≡ 2 → ⊥) → (v ≡ 3 → ⊥) → (v ≡ 4 → ⊥) → (v ≡ 5 → ⊥) → (v ≡ 6 → ⊥) → Columns ≡ stageOf v
 unfolding stageOf
-stage-last v a b c d e f = rw (ne-eqb v 0 a, ne-eqb v 1 b, ne-eqb v 2 c, ne-eqb v 3 d, ne-eqb v 4 e, ne-eqb v 5 f) refl
+stage-last v a b c d e f g = rw (ne-eqb v 0 a, ne-eqb v 1 b, ne-eqb v 2 c, ne-eqb v 3 d, ne-eqb v 4 e, ne-eqb v 5 f, ne-eqb v 6 g) refl

@@ -228,7 +228,7 @@ rebuilder-bytes-front st l =
     (le-leb rebuilderSize (length (rebuilderBytes st ++ l)) (let a = length-append (rebuilderBytes st) l in let b = length-rebuilder st in omega arith))
     (and-true _ _
     (le-leb (wordAt (rebuilderBytes st ++ l) 24) 2 (let a = phase-word st l in let b = phase-most (st .phase) in omega arith))
-    (le-leb (wordAt (rebuilderBytes st ++ l) 44) 6 (let a = stage-word st l in let b = stage-most (st .stage) in omega arith)))
+    (le-leb (wordAt (rebuilderBytes st ++ l) 44) 7 (let a = stage-word st l in let b = stage-most (st .stage) in omega arith)))
 
 pub rebuilder-bytes-are : (st : Rebuilder) → isRebuilder (rebuilderBytes st) ≡ true
 rebuilder-bytes-are st = ap isRebuilder (sym (append-nil (rebuilderBytes st))) ∙ rebuilder-bytes-front st []
@@ -260,7 +260,7 @@ pub no-phase : (s : List ℕ) (v : ℕ) → rebuilderSize ≤ length s → v ≡
 unfolding isRebuilder
 no-phase s v h e k = rw (le-leb rebuilderSize (length s) h, lt-leb (wordAt s 24) 2 (omega arith)) refl
 
-pub rebuilder-tested : (s : List ℕ) (v w : ℕ) → rebuilderSize ≤ length s → v ≡ wordAt s 24 → v ≤ 2 → w ≡ wordAt s 44 → leb w 6 ≡ isRebuilder s
+pub rebuilder-tested : (s : List ℕ) (v w : ℕ) → rebuilderSize ≤ length s → v ≡ wordAt s 24 → v ≤ 2 → w ≡ wordAt s 44 → leb w 7 ≡ isRebuilder s
 unfolding isRebuilder
 rebuilder-tested s v w h e k f = rw (le-leb rebuilderSize (length s) h, le-leb (wordAt s 24) 2 (omega arith), f) refl
 

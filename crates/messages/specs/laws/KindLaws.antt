@@ -11,16 +11,17 @@ use Rattle.strings.specs.Bits.{Bytes}
 use Rattle.strings.specs.laws.ResultLaws.{no-value, then-passed}
 use Rattle.strings.specs.declared.Refusal.the-variants.{BadKind}
 use Rattle.messages.specs.declared.Kind.{Kind}
-use Rattle.messages.specs.declared.Kind.the-variants.{Open, Hash, Syndrome, Bits}
+use Rattle.messages.specs.declared.Kind.the-variants.{Open, Hash, Syndrome, Bits, Burst}
 use Rattle.messages.specs.Numbers.{number, numberAt}
 use Rattle.messages.specs.laws.NumberLaws.{number-reads, number-form, size-last}
 use Rattle.messages.specs.Kinds.{kindNumber, kindOf, kindAt}
 
-pub kind-most : (k : Kind) → kindNumber k ≤ 3
+pub kind-most : (k : Kind) → kindNumber k ≤ 4
 kind-most Open = omega arith
 kind-most Hash = omega arith
 kind-most Syndrome = omega arith
 kind-most Bits = omega arith
+kind-most Burst = omega arith
 
 pub kind-size : (k : Kind) → length (number (kindNumber k)) ≡ 1
 kind-size k = let h = kind-most k in size-last (kindNumber k) (omega arith)
@@ -30,13 +31,15 @@ kind-of Open = refl
 kind-of Hash = refl
 kind-of Syndrome = refl
 kind-of Bits = refl
+kind-of Burst = refl
 
-pub kind-unknown : (v : ℕ) → 4 ≤ v → kindOf v ≡ refusal (refusalNumber BadKind)
+pub kind-unknown : (v : ℕ) → 5 ≤ v → kindOf v ≡ refusal (refusalNumber BadKind)
 kind-unknown zero h = absurd (omega arith)
 kind-unknown (suc zero) h = absurd (omega arith)
 kind-unknown (suc (suc zero)) h = absurd (omega arith)
 kind-unknown (suc (suc (suc zero))) h = absurd (omega arith)
-kind-unknown (suc (suc (suc (suc v)))) h = refl
+kind-unknown (suc (suc (suc (suc zero)))) h = absurd (omega arith)
+kind-unknown (suc (suc (suc (suc (suc v))))) h = refl
 
 -- a known kind's number is the one that was read
 kind-is : {j k : Kind} {a b : ℕ} → _≡_ {A = Result (Kind × ℕ)} (value (j, a)) (value (k, b)) → (kindNumber j ≡ kindNumber k) × (a ≡ b)
@@ -47,15 +50,16 @@ known-number zero at k b e = kind-is e
 known-number (suc zero) at k b e = kind-is e
 known-number (suc (suc zero)) at k b e = kind-is e
 known-number (suc (suc (suc zero))) at k b e = kind-is e
-known-number (suc (suc (suc (suc v)))) at k b e = absurd (no-value (refusalNumber BadKind) (k, b) e)
+known-number (suc (suc (suc (suc zero)))) at k b e = kind-is e
+known-number (suc (suc (suc (suc (suc v))))) at k b e = absurd (no-value (refusalNumber BadKind) (k, b) e)
 
 -- ---- as the code meets it: v is a kind's number, or no kind's
 pub kind-known : {v i at : ℕ} (k : Kind) → v ≡ i → i ≡ kindNumber k → value (k, at) ≡ mapped {B = Kind × ℕ} (λ j. (j, at)) (kindOf v)
 kind-known k e f = rw (e, f, kind-of k) refl
 
-pub kind-bad : (v at : ℕ) {i j k l : ℕ} → i ≡ kindNumber Open → j ≡ kindNumber Hash → k ≡ kindNumber Syndrome → l ≡ kindNumber Bits
-    → (v ≡ i → ⊥) → (v ≡ j → ⊥) → (v ≡ k → ⊥) → (v ≡ l → ⊥) → refusal (refusalNumber BadKind) ≡ mapped {B = Kind × ℕ} (λ n. (n, at)) (kindOf v)
-kind-bad v at ei ej ek el i j k l = rw (kind-unknown v (omega arith)) refl
+pub kind-bad : (v at : ℕ) {i j k l m : ℕ} → i ≡ kindNumber Open → j ≡ kindNumber Hash → k ≡ kindNumber Syndrome → l ≡ kindNumber Bits → m ≡ kindNumber Burst
+    → (v ≡ i → ⊥) → (v ≡ j → ⊥) → (v ≡ k → ⊥) → (v ≡ l → ⊥) → (v ≡ m → ⊥) → refusal (refusalNumber BadKind) ≡ mapped {B = Kind × ℕ} (λ n. (n, at)) (kindOf v)
+kind-bad v at ei ej ek el em i j k l m = rw (kind-unknown v (omega arith)) refl
 
 -- ---- the kind at the front of a message is read
 pub kind-reads : (k : Kind) (rest : List ℕ) → kindAt (number (kindNumber k) ++ rest) ≡ value (k, 1)

@@ -1,7 +1,7 @@
 -- Laws of numbers: their lengths, the turns of a writer and of a reader, reading what was written, and the one form of each number.
 use mathlib.Core.Path.{_≡_, refl, sym, ap, ap₂, _∙_}
 use mathlib.Core.Bool.{cond}
-use mathlib.Core.List.{List, [], _∷_, _++_, append-nil}
+use mathlib.Core.List.{List, [], _∷_, _++_, append-nil, append-assoc}
 use Prim.Native.Nat.{ℕ, zero, suc, _+_, _-_, _*_, _/_, _%_, _≤_, _<_}
 use native.Mathlib.Nat.{mul-add, mul-assoc}
 use native.Mathlib.Numerals.{add-one}
@@ -19,7 +19,7 @@ use Rattle.strings.specs.Bits.{Bytes}
 use Rattle.strings.specs.laws.Tests.{by-test}
 use Rattle.strings.specs.laws.ResultLaws.{unless-passed, then-passed}
 use Rattle.strings.specs.declared.Refusal.the-variants.{Truncated, BadNumber}
-use Rattle.messages.specs.Numbers.{groups, number, nextByte, numberAt, twoAt, threeAt}
+use Rattle.messages.specs.Numbers.{groups, number, nextByte, numberAt, twoAt, threeAt, allNumbers, numbersAt}
 
 -- ---- a number's bytes, from the first on
 abbrev lim : ℕ → ℕ
@@ -87,6 +87,20 @@ size-short v h = go (decLt v 128) (decLt v 16384)
     go (yes l) m = let e = size-last v l in omega arith
     go (no l) (yes m) = let e = size-two v (omega arith) m in omega arith
     go (no l) (no m) = let e = size-three v (omega arith) (omega arith) in omega arith
+
+pub numbers-most : (l : List ℕ) → length (allNumbers l) ≤ 5 * length l
+unfolding allNumbers
+numbers-most [] = omega arith
+numbers-most (v ∷ l) = let a = size-most v in let b = numbers-most l in let e = length-append (number v) (allNumbers l) in omega arith
+
+pub numbers-short : (l : List ℕ) → ((j : ℕ) → getD l j 0 ≤ maxBits) → length (allNumbers l) ≤ 3 * length l
+unfolding allNumbers
+numbers-short [] h = omega arith
+numbers-short (v ∷ l) h =
+    let a = size-short v (h 0) in
+    let b = numbers-short l (λ j. h (suc j)) in
+    let e = length-append (number v) (allNumbers l) in
+    omega arith
 
 -- ---- a turn of the writer, and its end
 pub write-turn : (s u : List ℕ) (i v : ℕ) → 128 ≤ v → v < 4294967296 → sets s i (number v) ≡ u → sets (set s i (v % 128 + 128)) (i + 1) (number (v / 128)) ≡ u
@@ -298,6 +312,20 @@ module _ (s : List ℕ) (at a b : ℕ) (small₁ : a < 4294967296) (small₂ : b
         g,
       ) refl
 
+-- numbers that stand one behind the other, whatever follows
+pub numbers-read : (l s rest : List ℕ) (at : ℕ) → ((j : ℕ) → getD l j 0 < 4294967296) → drop at s ≡ allNumbers l ++ rest → numbersAt (length l) s at ≡ value (l, at + length (allNumbers l))
+unfolding allNumbers numbersAt
+numbers-read [] s rest at m d = ap (λ (n : ℕ). value ([], n)) (let e : at ≡ at + 0 = omega arith in e)
+numbers-read (v ∷ l) s rest at m d =
+    let d′ : drop at s ≡ number v ++ (allNumbers l ++ rest) = d ∙ append-assoc (number v) (allNumbers l) rest in
+    let e = length-append (number v) (allNumbers l) in
+    let f : at + length (number v) + length (allNumbers l) ≡ at + length (number v ++ allNumbers l) = omega arith in
+    rw (
+      number-reads s (allNumbers l ++ rest) at v (m 0) d′,
+      numbers-read l s rest (at + length (number v)) (λ j. m (suc j)) (drop-past s (number v) (allNumbers l ++ rest) at d′),
+      f,
+    ) refl
+
 -- ---- nothing else is read to the same number
 number-is : {v b x c : ℕ} → _≡_ {A = Result (ℕ × ℕ)} (value (v, b)) (value (x, c)) → (v ≡ x) × (b ≡ c)
 number-is e = let f = value-is e in (ap (λ (p : ℕ × ℕ). p .0) f, ap (λ (p : ℕ × ℕ). p .1) f)
@@ -490,6 +518,23 @@ module _ (s : List ℕ) (bytes : Bytes s) (at : ℕ) where
         two-form (p .0, p .1, next) e ∙ ap (λ (l : List ℕ). number (p .0) ++ (number (p .1) ++ l)) (number-form-last s next (p .2) (p .3) bytes f h),
         number-form s next (p .2) (p .3) bytes f .small,
       )
+
+-- what numbers, one behind the other, were read from
+pub record NumbersStand (k : ℕ) (s : List ℕ) (at : ℕ) (l : List ℕ) (b : ℕ) : Type 0 where
+  pub many : length l ≡ k
+  pub stands : Bytes s → drop at s ≡ allNumbers l ++ drop b s
+
+pub numbers-form : (k : ℕ) (s : List ℕ) (at : ℕ) (p : List ℕ × ℕ) → numbersAt k s at ≡ value p → NumbersStand k s at (p .0) (p .1)
+unfolding numbersAt allNumbers
+numbers-form zero s at p is = rw (← value-is is) (record { many = refl; stands = λ bytes. refl })
+numbers-form (suc k) s at p is =
+    let (x, e, is₁) = then-passed (numberAt s at) _ p is in
+    let (y, f, is₂) = then-passed (numbersAt k s (x .1)) _ p is₁ in
+    let r = numbers-form k s (x .1) y f in
+    rw (← value-is is₂) (record {
+      many = ap suc (r .many);
+      stands = λ bytes. number-form s at (x .0) (x .1) bytes e .stands ∙ ap (λ (l : List ℕ). number (x .0) ++ l) (r .stands bytes) ∙ sym (append-assoc (number (x .0)) (allNumbers (y .0)) (drop (y .1) s));
+    })
 
 -- a number ends by the end of the message, whatever its elements
 next-inside : (k : ℕ) (s : List ℕ) (i w a x b : ℕ) → nextByte k s i w a ≡ value (x, b) → (i < b) × (b ≤ length s)

@@ -5,27 +5,27 @@ use Prim.Native.Nat.{ℕ, _+_, _≤_, _<_}
 use native.Mathlib.Omega.{arith}
 use lib.ListN.{length, drop, length-append}
 use lib.Seq.{drop-at}
-use lib.Dec.{leb, eqb}
+use lib.Dec.{leb, eqb, lit≤}
 use borrow.Author.Tests.{le-leb, leb-true, eqb-true}
 use Rattle.strings.specs.laws.ResultLaws.{value-is}
 use Rattle.strings.specs.Bits.{maxBits}
-use Rattle.strings.specs.SettingLimits.{hashLimits, keyLimits}
+use Rattle.strings.specs.SettingLimits.{between, hashLimits, keyLimits}
 use Rattle.strings.specs.Results.{value}
 use Rattle.strings.specs.laws.Tests.{and-left, and-right}
 use Rattle.strings.specs.Bits.{Bytes}
 use Rattle.strings.specs.laws.ResultLaws.{unless-passed, then-passed}
-use Rattle.strings.specs.declared.Refusal.the-variants.{TrailingBytes, OutOfRange}
+use Rattle.strings.specs.declared.Refusal.the-variants.{TrailingBytes, OutOfRange, BadBurst}
 use Rattle.messages.specs.declared.Kind.{Kind}
-use Rattle.messages.specs.declared.Kind.the-variants.{Open, Hash, Syndrome, Bits}
+use Rattle.messages.specs.declared.Kind.the-variants.{Open, Hash, Syndrome, Bits, Burst}
 use Rattle.messages.specs.declared.Question.{Question}
-use Rattle.messages.specs.declared.Question.the-variants.{AskOpen, AskHash, AskSyndrome, AskBits}
+use Rattle.messages.specs.declared.Question.the-variants.{AskOpen, AskHash, AskSyndrome, AskBits, AskBurst}
 use Rattle.messages.specs.Numbers.{number, twoAt, threeAt}
 use Rattle.messages.specs.laws.NumberLaws.{two-reads-last, three-reads-last, two-form-last, three-form-last, size-last, size-some, size-most, size-short}
 use Rattle.messages.specs.Kinds.{kindNumber, kindAt}
 use Rattle.messages.specs.laws.KindLaws.{kind-size, kind-reads, kind-form}
-use Rattle.messages.specs.Questions.{questionKind, questionBytes, openingAt, rangeAt, fieldsAt, readQuestion}
+use Rattle.messages.specs.Questions.{questionKind, questionBurst, questionBytes, openingAt, rangeAt, burstRangeAt, fieldsAt, readQuestion}
 
--- ---- the limits of 01: h 8 to 32, key 1 to 2^32 - 1; a range of 1 bit or more that ends by n
+-- ---- the limits: h 8 to 32, key 1 to 2^32 - 1; a range of 1 bit or more that ends by n; of a burst also B 2 to 32
 pub record OpeningWithin (h key : ℕ) : Type 0 where
   pub h-least : 8 ≤ h
   pub h-most : h ≤ 32
@@ -35,17 +35,32 @@ pub record RangeWithin (n start len : ℕ) : Type 0 where
   pub some : 1 ≤ len
   pub ends : start + len ≤ n
 
+pub record BurstWithin (n start len b : ℕ) : Type 0 where
+  pub range : RangeWithin n start len
+  pub b-least : 2 ≤ b
+  pub b-most : b ≤ 32
+
 abbrev pub Within : ℕ → Question → Type 0
 Within n (AskOpen h key) = OpeningWithin h key
 Within n (AskHash start len) = RangeWithin n start len
 Within n (AskSyndrome start len) = RangeWithin n start len
 Within n (AskBits start len) = RangeWithin n start len
+Within n (AskBurst start len b) = BurstWithin n start len b
+
+-- at most 32 columns
+pub burst-few : (n : ℕ) (q : Question) → Within n q → questionBurst q ≤ 32
+burst-few n (AskOpen h key) w = lit≤ tt
+burst-few n (AskHash start len) w = lit≤ tt
+burst-few n (AskSyndrome start len) w = lit≤ tt
+burst-few n (AskBits start len) w = lit≤ tt
+burst-few n (AskBurst start len b) w = w .b-most
 
 abbrev pub keyOf : Question → ℕ
 keyOf (AskOpen h key) = key
 keyOf (AskHash start len) = 0
 keyOf (AskSyndrome start len) = 0
 keyOf (AskBits start len) = 0
+keyOf (AskBurst start len b) = 0
 
 pub record InRange (n : ℕ) (q : Question) : Type 0 where
   pub within : Within n q
@@ -57,6 +72,7 @@ fieldBytes (AskOpen h key) = number 1 ++ (number h ++ number key)
 fieldBytes (AskHash start len) = number start ++ number len
 fieldBytes (AskSyndrome start len) = number start ++ number len
 fieldBytes (AskBits start len) = number start ++ number len
+fieldBytes (AskBurst start len b) = number start ++ (number len ++ number b)
 
 pub question-parts : (q : Question) → questionBytes q ≡ number (kindNumber (questionKind q)) ++ fieldBytes q
 unfolding questionBytes
@@ -64,6 +80,7 @@ question-parts (AskOpen h key) = refl
 question-parts (AskHash start len) = refl
 question-parts (AskSyndrome start len) = refl
 question-parts (AskBits start len) = refl
+question-parts (AskBurst start len b) = refl
 
 -- ---- lengths: 3 to 8 bytes
 question-length : (q : Question) → length (questionBytes q) ≡ 1 + length (fieldBytes q)
@@ -98,6 +115,15 @@ field-size n (AskOpen h key) m r =
 field-size n (AskHash start len) m r = let h = range-size n start len m (r .within) in (omega arith, h .1)
 field-size n (AskSyndrome start len) m r = let h = range-size n start len m (r .within) in (omega arith, h .1)
 field-size n (AskBits start len) m r = let h = range-size n start len m (r .within) in (omega arith, h .1)
+field-size n (AskBurst start len b) m r =
+    let w = r .within in
+    let x = w .b-most in
+    let h = range-size n start len m (w .range) in
+    let c = size-last b (omega arith) in
+    let d = length-append (number start) (number len ++ number b) in
+    let e = length-append (number len) (number b) in
+    let f = length-append (number start) (number len) in
+    (omega arith, omega arith)
 
 pub question-size : (n : ℕ) (q : Question) → n ≤ maxBits → InRange n q → length (questionBytes q) ≤ 8
 question-size n q m r = let h = field-size n q m r in let e = question-length q in omega arith
@@ -127,12 +153,27 @@ range-reads ask s at n start len m w d =
       le-leb (start + len) n x,
     ) refl
 
+pub burst-reads : (s : List ℕ) (at n start len b : ℕ) → n ≤ maxBits → BurstWithin n start len b → drop at s ≡ number start ++ (number len ++ number b) → burstRangeAt s at n ≡ value (AskBurst start len b)
+unfolding burstRangeAt
+burst-reads s at n start len b m w d =
+    let x = w .range .ends in
+    let y = w .b-most in
+    rw (
+      three-reads-last s at start len (omega arith) (omega arith) b (omega arith) d,
+      le-leb (length s) (length s) (omega arith),
+      le-leb 2 b (w .b-least),
+      le-leb b 32 y,
+      le-leb 1 len (w .range .some),
+      le-leb (start + len) n x,
+    ) refl
+
 pub fields-read : (q : Question) (s : List ℕ) (at n : ℕ) → n ≤ maxBits → InRange n q → drop at s ≡ fieldBytes q → fieldsAt (questionKind q) s at n ≡ value q
 unfolding fieldsAt
 fields-read (AskOpen h key) s at n m r d = opening-reads s at h key (r .within) (r .key-most) d
 fields-read (AskHash start len) s at n m r d = range-reads AskHash s at n start len m (r .within) d
 fields-read (AskSyndrome start len) s at n m r d = range-reads AskSyndrome s at n start len m (r .within) d
 fields-read (AskBits start len) s at n m r d = range-reads AskBits s at n start len m (r .within) d
+fields-read (AskBurst start len b) s at n m r d = burst-reads s at n start len b m (r .within) d
 
 pub question-kind-reads : (q : Question) → kindAt (questionBytes q) ≡ value (questionKind q, 1)
 question-kind-reads q = ap kindAt (question-parts q) ∙ kind-reads (questionKind q) (fieldBytes q)
@@ -208,13 +249,48 @@ range-read ask s at n q is =
       is = value-is is₄;
     }
 
--- the question has the kind that was read, within 01's limits
+-- the numbers that a burst question was read from
+record BurstRead (s : List ℕ) (at n : ℕ) (q : Question) : Type 0 where
+  start : ℕ
+  len : ℕ
+  b : ℕ
+  end : ℕ
+  read : threeAt s at ≡ value (start, len, b, end)
+  nothing : length s ≤ end
+  within : BurstWithin n start len b
+  is : AskBurst start len b ≡ q
+
+burst-read : (s : List ℕ) (at n : ℕ) (q : Question) → burstRangeAt s at n ≡ value q → BurstRead s at n q
+unfolding burstRangeAt
+burst-read s at n q is =
+    let (p, e, is₁) = then-passed (threeAt s at) _ q is in
+    let (t₁, is₂) = unless-passed (leb (length s) (p .3)) TrailingBytes _ q is₁ in
+    let (t₂, is₃) = unless-passed (between 2 (p .2) 32) BadBurst _ q is₂ in
+    let (t₃, is₄) = unless-passed (leb 1 (p .1)) OutOfRange _ q is₃ in
+    let (t₄, is₅) = unless-passed (leb (p .0 + p .1) n) OutOfRange _ q is₄ in
+    record {
+      start = p .0;
+      len = p .1;
+      b = p .2;
+      end = p .3;
+      read = e;
+      nothing = leb-true (length s) (p .3) t₁;
+      within = record {
+        range = record { some = leb-true 1 (p .1) t₃; ends = leb-true (p .0 + p .1) n t₄ };
+        b-least = leb-true 2 (p .2) (and-left (leb 2 (p .2)) (leb (p .2) 32) t₂);
+        b-most = leb-true (p .2) 32 (and-right (leb 2 (p .2)) (leb (p .2) 32) t₂);
+      };
+      is = value-is is₅;
+    }
+
+-- the question has the kind that was read, within the limits
 pub fields-within : (k : Kind) (s : List ℕ) (at n : ℕ) (q : Question) → fieldsAt k s at n ≡ value q → (questionKind q ≡ k) × Within n q
 unfolding fieldsAt
 fields-within Open s at n q e = let r = opening-read s at q e in rw (← r .is) (refl, r .within)
 fields-within Hash s at n q e = let r = range-read AskHash s at n q e in rw (← r .is) (refl, r .within)
 fields-within Syndrome s at n q e = let r = range-read AskSyndrome s at n q e in rw (← r .is) (refl, r .within)
 fields-within Bits s at n q e = let r = range-read AskBits s at n q e in rw (← r .is) (refl, r .within)
+fields-within Burst s at n q e = let r = burst-read s at n q e in rw (← r .is) (refl, r .within)
 
 -- ---- nothing else is read to a question
 pub record FieldsOf (k : Kind) (s : List ℕ) (at n : ℕ) (q : Question) : Type 0 where
@@ -241,6 +317,10 @@ module _ (s : List ℕ) (bytes : Bytes s) where
   fields-form Bits at n q e =
       let r = range-read AskBits s at n q e in
       rw (← r .is) (record { kind = refl; range = record { within = r .within; key-most = omega arith }; bytes = range-form AskBits at n q r })
+  fields-form Burst at n q e =
+      let r = burst-read s at n q e in
+      let f = three-form-last s bytes at (r .start, r .len, r .b, r .end) (r .read) (r .nothing) in
+      rw (← r .is) (record { kind = refl; range = record { within = r .within; key-most = omega arith }; bytes = f .0 })
 
 -- what a message that is read to a question is
 pub record IsQuestion (s : List ℕ) (n : ℕ) (q : Question) : Type 0 where

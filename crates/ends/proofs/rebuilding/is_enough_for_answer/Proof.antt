@@ -39,6 +39,12 @@ enum-known-read-5 c = search needs
 is-enough-requires-4 : tie.Need-is-enough-requires-4
 is-enough-requires-4 c κs = search needs
 
+enum-known-read-6 : tie.Need-enum-known-read-6
+enum-known-read-6 c = search needs
+
+is-enough-requires-5 : tie.Need-is-enough-requires-5
+is-enough-requires-5 c κs = search needs
+
 returns : tie.Need-returns
 returns c = as-read (c .before .before .before) (c .before .read .given .1)
 
@@ -54,6 +60,9 @@ returns-4 c = c .is-enough3 .ensures ∙ as-read (c .before .before .before .bef
 returns-5 : tie.Need-returns-5
 returns-5 c = c .is-enough4 .ensures ∙ as-read (c .before .before .before .before) (c .before .before .read5 .given .1)
 
+returns-6 : tie.Need-returns-6
+returns-6 c = c .is-enough5 .ensures ∙ as-read (c .before .before .before .before) (c .before .before .read6 .given .1)
+
 pub is-enough-for-answer-spec : {M : Type 1} → statement M
 is-enough-for-answer-spec =
     tie.close
@@ -67,8 +76,11 @@ is-enough-for-answer-spec =
     is-enough-requires-3
     enum-known-read-5
     is-enough-requires-4
+    enum-known-read-6
+    is-enough-requires-5
     returns
     returns-2
     returns-3
     returns-4
-    returns-5)
+    returns-5
+    returns-6)

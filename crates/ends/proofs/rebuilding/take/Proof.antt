@@ -6,7 +6,7 @@ use lib.ListN.{length}
 use Rattle.messages.specs.declared.AnswerRead.{AnswerRead}
 use Rattle.ends.specs.RebuilderOutcome.{RebuilderSaid, leavesRebuilder, capacities}
 use Rattle.ends.specs.code.RebuilderParts.{enoughForAnswer, heardStep}
-use Rattle.ends.specs.code.RebuilderCallLaws.{heard-size, heard-hash, heard-syndrome, heard-bits, bits-inside, bits-long, bits-said, read-said, enough-for, enough-is, enough-bits, acting-small, whole-small, refused-said}
+use Rattle.ends.specs.code.RebuilderCallLaws.{heard-size, heard-hash, heard-syndrome, heard-burst, heard-bits, cols-few, burst-answered, burst-said, bits-inside, bits-long, bits-said, read-said, enough-for, enough-is, enough-bits, acting-small, whole-small, refused-said}
 use borrow.Author.Needs.{needs}
 use Rattle.ends.proofs.rebuilding.take.Statement.{statement}
 use Rattle.ends.proofs.rebuilding.take.Tie as tie
@@ -17,15 +17,15 @@ start c = c .before .before .before .before
 -- the answer that was read has capacity
 enough-left : (s : tie.Start) {b : AnswerRead} → let a = s .args in
     a .read ≡ b → enoughForAnswer (a .st) (capacities (length (a .string .now)) (s .pre .1 .0 .0) (length (a .question .now))) b ≡ true
-enough-left s e = enough-for (s .args .st) _ _ _ (s .pre .0) _ (s .pre .1 .0 .1) e
+enough-left s e = enough-for (s .args .st) _ _ _ _ (s .pre .0) _ (s .pre .1 .0 .1) e
 
 -- and what is done with it is what the call leaves
-said : (s : tie.Start) {b : AnswerRead} {x : RebuilderSaid} → let a = s .args in let after : AnswerRead → RebuilderSaid = λ z. leavesRebuilder (a .st) (a .string .now) (a .question .now) (heardStep (a .st) (a .y .now) (a .msg .now) (a .len) z) in
+said : (s : tie.Start) {b : AnswerRead} {x : RebuilderSaid} → let a = s .args in let after : AnswerRead → RebuilderSaid = λ z. leavesRebuilder (a .st) (a .string .now) (a .question .now) (heardStep (a .st) (a .y .now) (a .msg .now) (a .len) (a .b) z) in
     a .read ≡ b → x ≡ after b → x ≡ after (a .read)
-said s e f = read-said (s .args .st) _ _ _ (s .pre .0) e _ _ _ f
+said s e f = read-said (s .args .st) _ _ _ _ (s .pre .0) e _ _ _ f
 
 inside : (c : tie.After-read5) → c .read5 .given .0 .0 ≤ length (start (c .before .before) .args .msg .now)
-inside c = let s = start (c .before .before) in bits-inside (s .args .st) _ _ _ (s .pre .0) _ (c .read5 .given .1)
+inside c = let s = start (c .before .before) in bits-inside (s .args .st) _ _ _ _ (s .pre .0) _ (c .read5 .given .1)
 
 enum-known-read : tie.Need-enum-known-read
 enum-known-read c = search needs
@@ -41,7 +41,7 @@ take-size-requires c κs =
     let s = start (c .before .before .before .before .before) in
     let e = c .before .before .before .read2 .given .1 in
     let r = enough-is (s .args .st) _ _ (enough-left s e) in
-    (heard-size (s .args .st) _ _ _ (s .pre .0) _ e _ (r .1), r .0)
+    (heard-size (s .args .st) _ _ _ _ (s .pre .0) _ e _ (r .1), r .0)
 
 enum-known-read-3 : tie.Need-enum-known-read-3
 enum-known-read-3 c = search needs
@@ -50,14 +50,14 @@ cast-take-hash : tie.Need-cast-take-hash
 cast-take-hash c =
     let s = start (c .before .before .before) in
     let e = c .before .read3 .given .1 in
-    record { fits = acting-small (s .args .st) _ 8 (heard-hash (s .args .st) _ _ _ (s .pre .0) _ e 8 (omega arith) .0) }
+    record { fits = acting-small (s .args .st) _ 8 (heard-hash (s .args .st) _ _ _ _ (s .pre .0) _ e 8 (omega arith) .0) }
 
 take-hash-requires : tie.Need-take-hash-requires
 take-hash-requires c κs =
     let s = start (c .before .before .before .before .before) in
     let e = c .before .before .before .read3 .given .1 in
     let r = enough-is (s .args .st) _ _ (enough-left s e) in
-    let h = heard-hash (s .args .st) _ _ _ (s .pre .0) _ e _ (r .1) in
+    let h = heard-hash (s .args .st) _ _ _ _ (s .pre .0) _ e _ (r .1) in
     (h .0, (record { copy = s .pre .1 .1; text = enough-bits _ _ (r .0) }, h .1))
 
 enum-known-read-4 : tie.Need-enum-known-read-4
@@ -67,14 +67,14 @@ cast-take-syndrome : tie.Need-cast-take-syndrome
 cast-take-syndrome c =
     let s = start (c .before .before .before) in
     let e = c .before .read4 .given .1 in
-    record { fits = acting-small (s .args .st) _ 8 (heard-syndrome (s .args .st) _ _ _ (s .pre .0) _ _ e 8 (omega arith) .0) }
+    record { fits = acting-small (s .args .st) _ 8 (heard-syndrome (s .args .st) _ _ _ _ (s .pre .0) _ _ e 8 (omega arith) .0) }
 
 take-syndrome-requires : tie.Need-take-syndrome-requires
 take-syndrome-requires c κs =
     let s = start (c .before .before .before .before .before) in
     let e = c .before .before .before .read4 .given .1 in
     let r = enough-is (s .args .st) _ _ (enough-left s e) in
-    let h = heard-syndrome (s .args .st) _ _ _ (s .pre .0) _ _ e _ (r .1) in
+    let h = heard-syndrome (s .args .st) _ _ _ _ (s .pre .0) _ _ e _ (r .1) in
     (h .0, (record { copy = s .pre .1 .1; text = enough-bits _ _ (r .0) }, h .1))
 
 enum-known-read-5 : tie.Need-enum-known-read-5
@@ -93,14 +93,36 @@ cast-take-bits : tie.Need-cast-take-bits
 cast-take-bits c =
     let s = start (c .before .before .before .before) in
     let e = c .before .before .read5 .given .1 in
-    record { fits = whole-small (s .args .st) _ 8 (heard-bits (s .args .st) _ _ _ (s .pre .0) _ e 8 (omega arith) .0) }
+    record { fits = whole-small (s .args .st) _ 8 (heard-bits (s .args .st) _ _ _ _ (s .pre .0) _ e 8 (omega arith) .0) }
 
 take-bits-requires : tie.Need-take-bits-requires
 take-bits-requires c κs =
     let s = start (c .before .before .before .before .before .before) in
     let e = c .before .before .before .before .read5 .given .1 in
     let r = enough-is (s .args .st) _ _ (enough-left s e) in
-    (heard-bits (s .args .st) _ _ _ (s .pre .0) _ e _ (r .1) .0, (record { copy = s .pre .1 .1; text = enough-bits _ _ (r .0) }, bits-long (s .args .st) _ _ _ (s .pre .0) _ e))
+    (heard-bits (s .args .st) _ _ _ _ (s .pre .0) _ e _ (r .1) .0, (record { copy = s .pre .1 .1; text = enough-bits _ _ (r .0) }, bits-long (s .args .st) _ _ _ _ (s .pre .0) _ e))
+
+enum-known-read-6 : tie.Need-enum-known-read-6
+enum-known-read-6 c = search needs
+
+burst-syndromes-requires : tie.Need-burst-syndromes-requires
+burst-syndromes-requires c κs =
+    let s = start (c .before .before .before) in
+    (cols-few (s .args .st) _ _ _ _ (s .pre .0), burst-answered (s .args .st) _ _ _ _ (s .pre .0) _ (c .before .read6 .given .1))
+
+cast-take-burst : tie.Need-cast-take-burst
+cast-take-burst c =
+    let s = start (c .before .before .before .before) in
+    let e = c .before .before .read6 .given .1 in
+    record { fits = acting-small (s .args .st) _ 8 (heard-burst (s .args .st) _ _ _ _ (s .pre .0) _ e 8 (omega arith) .0) }
+
+take-burst-requires : tie.Need-take-burst-requires
+take-burst-requires c κs =
+    let s = start (c .before .before .before .before .before .before) in
+    let e = c .before .before .before .before .read6 .given .1 in
+    let r = enough-is (s .args .st) _ _ (enough-left s e) in
+    let h = heard-burst (s .args .st) _ _ _ _ (s .pre .0) _ e _ (r .1) in
+    (h .0, (record { copy = s .pre .1 .1; text = enough-bits _ _ (r .0) }, h .1))
 
 returns : tie.Need-returns
 returns c =
@@ -143,7 +165,18 @@ same-length-8 c = search needs
 returns-5 : tie.Need-returns-5
 returns-5 c =
     let s = start (c .before .before .before .before .before .before .before .before .before .before .before) in
-    bits-said (s .args .st) _ _ _ (s .pre .0) _ (c .before .before .before .before .before .before .before .before .before .read5 .given .1) _ _ _ (c .before .before .before .before .take-bits .ensures)
+    bits-said (s .args .st) _ _ _ _ (s .pre .0) _ (c .before .before .before .before .before .before .before .before .before .read5 .given .1) _ _ _ (c .before .before .before .before .take-bits .ensures)
+
+same-length-9 : tie.Need-same-length-9
+same-length-9 c = search needs
+
+same-length-10 : tie.Need-same-length-10
+same-length-10 c = search needs
+
+returns-6 : tie.Need-returns-6
+returns-6 c =
+    let s = start (c .before .before .before .before .before .before .before .before .before .before .before) in
+    burst-said (s .args .st) _ _ _ _ (s .pre .0) _ (c .before .before .before .before .before .before .before .before .before .read6 .given .1) (c .before .before .before .before .before .before .before .burst-syndromes .result) (c .before .before .before .before .before .before .before .burst-syndromes .ensures) _ _ _ (c .before .before .before .before .take-burst .ensures)
 
 pub take-spec : {M : Type 1} → statement M
 take-spec =
@@ -165,6 +198,10 @@ take-spec =
     part-take-bits-end
     cast-take-bits
     take-bits-requires
+    enum-known-read-6
+    burst-syndromes-requires
+    cast-take-burst
+    take-burst-requires
     returns
     same-length
     same-length-2
@@ -177,4 +214,7 @@ take-spec =
     returns-4
     same-length-7
     same-length-8
-    returns-5)
+    returns-5
+    same-length-9
+    same-length-10
+    returns-6)

@@ -33,6 +33,12 @@ too-small-requires c κs = search needs
 enum-told-4 : tie.Need-enum-told-4
 enum-told-4 c = search needs
 
+enum-told-5 : tie.Need-enum-told-5
+enum-told-5 c = search needs
+
+is-burst-requires : tie.Need-is-burst-requires
+is-burst-requires c κs = search needs
+
 returns : tie.Need-returns
 unfolding stageFits
 returns c = simp (c .enum-told .given .1, c .before .before .wide2 .ensures .0, c .before .before .before .wide .ensures .0)
@@ -53,6 +59,10 @@ returns-5 : tie.Need-returns-5
 unfolding stageFits
 returns-5 c = simp (c .enum-told4 .given .1)
 
+returns-6 : tie.Need-returns-6
+unfolding stageFits
+returns-6 c = rw (c .before .enum-told5 .given .1) (c .is-burst .ensures)
+
 pub stage-fits-spec : {M : Type 1} → statement M
 stage-fits-spec =
     tie.close
@@ -67,8 +77,11 @@ stage-fits-spec =
     enum-known-t
     too-small-requires
     enum-told-4
+    enum-told-5
+    is-burst-requires
     returns
     returns-2
     returns-3
     returns-4
-    returns-5)
+    returns-5
+    returns-6)

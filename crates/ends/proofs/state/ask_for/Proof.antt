@@ -31,6 +31,12 @@ add-t7 c = let k = c .before .before .before .before .before .pre in
 enum-told-4 : tie.Need-enum-told-4
 enum-told-4 c = search needs
 
+enum-told-5 : tie.Need-enum-told-5
+enum-told-5 c = search needs
+
+length-distance-requires : tie.Need-length-distance-requires
+length-distance-requires c κs = search needs
+
 returns : tie.Need-returns
 returns c = rw (c .enum-told .given .1) refl
 
@@ -46,6 +52,9 @@ returns-4 c = rw (c .before .before .before .stage .given .1, c .before .anchor-
 returns-5 : tie.Need-returns-5
 returns-5 c = rw (c .enum-told4 .given .1) refl
 
+returns-6 : tie.Need-returns-6
+returns-6 c = rw (c .before .enum-told5 .given .1, c .length-distance .ensures) refl
+
 pub ask-for-spec : {M : Type 1} → statement M
 ask-for-spec =
     tie.close
@@ -57,8 +66,11 @@ ask-for-spec =
     anchor-offset-requires
     add-t7
     enum-told-4
+    enum-told-5
+    length-distance-requires
     returns
     returns-2
     returns-3
     returns-4
-    returns-5)
+    returns-5
+    returns-6)

@@ -1,6 +1,6 @@
 use native.Mathlib.Omega.{arith}
-use borrow.Author.Tests.{eq-eqb, ne-eqb}
-use Rattle.ends.specs.code.StateCode.{stage-same, stage-less, stage-more, stage-far}
+use mathlib.Core.Path.{sym, _∙_}
+use Rattle.ends.specs.code.StateCode.{stage-same, stage-less, stage-more, stage-columns, stage-far}
 use borrow.Author.Needs.{needs}
 use Rattle.ends.proofs.state.first_stage.Statement.{statement}
 use Rattle.ends.proofs.state.first_stage.Tie as tie
@@ -26,11 +26,17 @@ add-if3 c = search needs
 returns-3 : tie.Need-returns-3
 returns-3 c = stage-more _ _ _ _ _ (c .before .before .before .before .wide .ensures .0) (c .before .before .before .wide2 .ensures .0) (c .if3 .taken)
 
+is-burst-requires : tie.Need-is-burst-requires
+is-burst-requires c κs = search needs
+
+returns-4 : tie.Need-returns-4
+returns-4 c = stage-columns _ _ _ _ _ (c .before .before .before .before .before .before .wide .ensures .0) (c .before .before .before .before .before .wide2 .ensures .0) (c .before .before .before .before .if1 .left) (c .before .before .before .if2 .left) (c .before .before .if3 .left) (sym (c .before .is-burst .ensures) ∙ c .if4 .taken)
+
 later-stage-requires : tie.Need-later-stage-requires
 later-stage-requires c κs = search needs
 
-returns-4 : tie.Need-returns-4
-returns-4 c = stage-far _ _ _ _ _ (c .before .before .before .before .before .wide .ensures .0) (c .before .before .before .before .wide2 .ensures .0) (c .before .before .before .if1 .left) (c .before .before .if2 .left) (c .before .if3 .left) (c .later-stage .ensures)
+returns-5 : tie.Need-returns-5
+returns-5 c = stage-far _ _ _ _ _ (c .before .before .before .before .before .before .before .wide .ensures .0) (c .before .before .before .before .before .before .wide2 .ensures .0) (c .before .before .before .before .before .if1 .left) (c .before .before .before .before .if2 .left) (c .before .before .before .if3 .left) (sym (c .before .before .is-burst .ensures) ∙ c .before .if4 .left) (c .later-stage .ensures)
 
 pub first-stage-spec : {M : Type 1} → statement M
 first-stage-spec =
@@ -43,5 +49,7 @@ first-stage-spec =
     returns-2
     add-if3
     returns-3
+    is-burst-requires
+    returns-4
     later-stage-requires
-    returns-4)
+    returns-5)

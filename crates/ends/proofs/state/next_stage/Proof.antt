@@ -29,6 +29,12 @@ after-anchor-requires c κs = search needs
 enum-told-4 : tie.Need-enum-told-4
 enum-told-4 c = search needs
 
+enum-told-5 : tie.Need-enum-told-5
+enum-told-5 c = search needs
+
+later-stage-requires-4 : tie.Need-later-stage-requires-4
+later-stage-requires-4 c κs = search needs
+
 returns : tie.Need-returns
 returns c = rw (c .before .enum-told .given .1) (c .later-stage .ensures)
 
@@ -44,6 +50,9 @@ returns-4 c = search needs
 returns-5 : tie.Need-returns-5
 returns-5 c = search needs
 
+returns-6 : tie.Need-returns-6
+returns-6 c = rw (c .before .enum-told5 .given .1) (c .later-stage4 .ensures)
+
 pub next-stage-spec : {M : Type 1} → statement M
 next-stage-spec =
     tie.close
@@ -57,8 +66,11 @@ next-stage-spec =
     enum-known-t
     after-anchor-requires
     enum-told-4
+    enum-told-5
+    later-stage-requires-4
     returns
     returns-2
     returns-3
     returns-4
-    returns-5)
+    returns-5
+    returns-6)

@@ -41,6 +41,12 @@ enum-told-4 c = search needs
 give-requires-3 : tie.Need-give-requires-3
 give-requires-3 c κs = search needs
 
+enum-told-5 : tie.Need-enum-told-5
+enum-told-5 c = search needs
+
+give-requires-4 : tie.Need-give-requires-4
+give-requires-4 c κs = search needs
+
 same-length : tie.Need-same-length
 same-length c = search needs
 
@@ -74,6 +80,9 @@ returns-4 c = let s = c .before .before .before .before .before .before .before 
 returns-5 : tie.Need-returns-5
 returns-5 c = let s = c .before .before .before .before .before .before .before in absurd (stage-asks (c .before .enum-told4 .given .1) (s .pre .1 .1 .0))
 
+returns-6 : tie.Need-returns-6
+returns-6 c = let s = c .before .before .before .before .before .before .before in absurd (stage-asks (c .before .enum-told5 .given .1) (s .pre .1 .1 .0))
+
 pub take-piece-bits-spec : {M : Type 1} → statement M
 take-piece-bits-spec =
     tie.close
@@ -88,6 +97,8 @@ take-piece-bits-spec =
     give-requires-2
     enum-told-4
     give-requires-3
+    enum-told-5
+    give-requires-4
     same-length
     same-length-2
     returns
@@ -96,4 +107,5 @@ take-piece-bits-spec =
     returns-2
     returns-3
     returns-4
-    returns-5)
+    returns-5
+    returns-6)

@@ -1,5 +1,5 @@
 use Rattle.ends.specs.declared.Attempt.the-variants.{First, Second, Third}
-use Rattle.ends.specs.declared.Stage.the-variants.{Hashing, PuttingIn, TakingOut, Anchor}
+use Rattle.ends.specs.declared.Stage.the-variants.{Hashing, PuttingIn, TakingOut, Anchor, AllBits}
 use Rattle.layout.specs.laws.CaseLaws.{stage-known, stage-last}
 use Rattle.layout.proofs.cases.stage_of.Statement.{statement}
 use Rattle.layout.proofs.cases.stage_of.Tie as tie
@@ -23,8 +23,11 @@ returns-6 : tie.Need-returns-6
 returns-6 c = stage-known _ (Anchor Third) (c .if6 .taken)
 
 returns-7 : tie.Need-returns-7
-returns-7 c = stage-last _ (c .before .before .before .before .before .if1 .left) (c .before .before .before .before .if2 .left) (c .before .before .before .if3 .left) (c .before .before .if4 .left) (c .before .if5 .left) (c .if6 .left)
+returns-7 c = stage-known _ AllBits (c .if7 .taken)
+
+returns-8 : tie.Need-returns-8
+returns-8 c = stage-last _ (c .before .before .before .before .before .before .if1 .left) (c .before .before .before .before .before .if2 .left) (c .before .before .before .before .if3 .left) (c .before .before .before .if4 .left) (c .before .before .if5 .left) (c .before .if6 .left) (c .if7 .left)
 
 pub stage-of-spec : {M : Type 1} → statement M
 stage-of-spec =
-    tie.close (tie.spec returns returns-2 returns-3 returns-4 returns-5 returns-6 returns-7)
+    tie.close (tie.spec returns returns-2 returns-3 returns-4 returns-5 returns-6 returns-7 returns-8)

@@ -11,10 +11,10 @@ sub-rest : tie.Need-sub-rest
 sub-rest c = search needs
 
 returns : tie.Need-returns
-returns c = let a = c .before .before .args in (bits-cut (a .len) (a .s .now) (a .at) (search needs) (c .if1 .taken), tt)
+returns c = let a = c .before .before .args in ((λ b. bits-cut (a .len) (a .s .now) (a .at) (search needs) (c .if1 .taken)), tt)
 
 returns-2 : tie.Need-returns-2
-returns-2 c = let a = c .before .before .before .args in (bits-left (a .len) (a .s .now) (a .at) (search needs) (c .if2 .taken), tt)
+returns-2 c = let a = c .before .before .before .args in ((λ b. bits-left (a .len) (a .s .now) (a .at) (search needs) (c .if2 .taken)), tt)
 
 sub-keeps-string-rule : tie.Need-sub-keeps-string-rule
 sub-keeps-string-rule c = search needs
@@ -32,14 +32,14 @@ returns-3 : tie.Need-returns-3
 returns-3 c =
     let a = c .before .before .before .before .before .before .args in
     let keeps-string-rule = c .before .keeps-string-rule in
-    (bits-spare (a .len) (a .s .now) (a .at) (search needs) (search needs) (search needs) (keeps-string-rule .ensures) (not-true _ (c .if3 .taken)), tt)
+    ((λ b. bits-spare (a .len) (a .s .now) (a .at) (search needs) (search needs) (search needs) (keeps-string-rule .ensures) (not-true _ (c .if3 .taken))), tt)
 
 returns-4 : tie.Need-returns-4
 returns-4 c =
     let a = c .before .before .before .before .before .before .args in
     let keeps-string-rule = c .before .keeps-string-rule in
     let kept = not-false _ (c .if3 .left) in (
-      bits-whole (a .len) (a .s .now) (a .at) (search needs) (search needs) (search needs) (keeps-string-rule .ensures) kept,
+      λ b. bits-whole (a .len) (a .s .now) (a .at) (search needs) (search needs) (search needs) (keeps-string-rule .ensures) kept,
       bits-there (a .len) (a .s .now) (a .at) (search needs) (search needs) (search needs) (keeps-string-rule .ensures) kept,
     )
 

@@ -28,20 +28,20 @@ enum-known-v : tie.Need-enum-known-v
 enum-known-v c = search needs
 
 returns : tie.Need-returns
-returns c len = sym (v-read (c .before .before) ∙ simp (lt-leb _ _ (c .if1 .taken)))
+returns c len b = sym (v-read (c .before .before) ∙ simp (lt-leb _ _ (c .if1 .taken)))
 
 is-hash-requires : tie.Need-is-hash-requires
 is-hash-requires c κs = search needs
 
 returns-2 : tie.Need-returns-2
-returns-2 c len = sym (v-read (c .before .before .before .before) ∙ simp (le-leb _ _ (c .before .before .if1 .left), sym (c .before .is-hash .ensures) ∙ not-true _ (c .if2 .taken)))
+returns-2 c len b = sym (v-read (c .before .before .before .before) ∙ simp (le-leb _ _ (c .before .before .if1 .left), sym (c .before .is-hash .ensures) ∙ not-true _ (c .if2 .taken)))
 
 returns-3 : tie.Need-returns-3
 unfolding hashAt
-returns-3 c len = sym (read-decides saidNumber (c .before .before .before .next-number .ensures) _ refl (c .before .e .given .1))
+returns-3 c len b = sym (read-decides saidNumber (c .before .before .before .next-number .ensures) _ refl (c .before .e .given .1))
 
 returns-4 : tie.Need-returns-4
-returns-4 c len = sym (v-read (c .before .before .before .before) ∙ simp (le-leb _ _ (c .before .before .if1 .left), sym (c .before .is-hash .ensures) ∙ not-false _ (c .if2 .left)))
+returns-4 c len b = sym (v-read (c .before .before .before .before) ∙ simp (le-leb _ _ (c .before .before .if1 .left), sym (c .before .is-hash .ensures) ∙ not-false _ (c .if2 .left)))
 
 pub read-hash-spec : {M : Type 1} → statement M
 read-hash-spec =

@@ -28,20 +28,20 @@ enum-known-n : tie.Need-enum-known-n
 enum-known-n c = search needs
 
 returns : tie.Need-returns
-returns c len = sym (n-read (c .before .before) ∙ simp (lt-leb _ _ (c .if1 .taken)))
+returns c len b = sym (n-read (c .before .before) ∙ simp (lt-leb _ _ (c .if1 .taken)))
 
 cast-if2 : tie.Need-cast-if2
 cast-if2 c = search needs
 
 returns-2 : tie.Need-returns-2
-returns-2 c len = sym (n-read (c .before .before .before) ∙ simp (le-leb _ _ (c .before .if1 .left), lt-leb _ _ (c .if2 .taken)))
+returns-2 c len b = sym (n-read (c .before .before .before) ∙ simp (le-leb _ _ (c .before .if1 .left), lt-leb _ _ (c .if2 .taken)))
 
 returns-3 : tie.Need-returns-3
 unfolding sizeAt
-returns-3 c len = sym (read-decides saidNumber (c .before .before .before .next-number .ensures) _ refl (c .before .e .given .1))
+returns-3 c len b = sym (read-decides saidNumber (c .before .before .before .next-number .ensures) _ refl (c .before .e .given .1))
 
 returns-4 : tie.Need-returns-4
-returns-4 c len = sym (n-read (c .before .before .before) ∙ simp (le-leb _ _ (c .before .if1 .left), le-leb _ _ (c .if2 .left)))
+returns-4 c len b = sym (n-read (c .before .before .before) ∙ simp (le-leb _ _ (c .before .if1 .left), le-leb _ _ (c .if2 .left)))
 
 pub read-size-spec : {M : Type 1} → statement M
 read-size-spec =

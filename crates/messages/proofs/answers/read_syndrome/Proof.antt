@@ -32,23 +32,23 @@ enum-known-a : tie.Need-enum-known-a
 enum-known-a c = search needs
 
 returns : tie.Need-returns
-returns c = sym (both-read (c .before .before) ∙ simp (lt-leb _ _ (c .if1 .taken)))
+returns c b = sym (both-read (c .before .before) ∙ simp (lt-leb _ _ (c .if1 .taken)))
 
 returns-2 : tie.Need-returns-2
-returns-2 c = sym (both-read (c .before .before .before) ∙ simp (le-leb _ _ (c .before .if1 .left), lt-leb _ _ (c .if2 .taken)))
+returns-2 c b = sym (both-read (c .before .before .before) ∙ simp (le-leb _ _ (c .before .if1 .left), lt-leb _ _ (c .if2 .taken)))
 
 is-hash-requires : tie.Need-is-hash-requires
 is-hash-requires c κs = search needs
 
 returns-3 : tie.Need-returns-3
-returns-3 c = sym (in-range (c .before .before) ∙ simp (sym (c .before .is-hash .ensures) ∙ not-true _ (c .if3 .taken)))
+returns-3 c b = sym (in-range (c .before .before) ∙ simp (sym (c .before .is-hash .ensures) ∙ not-true _ (c .if3 .taken)))
 
 returns-4 : tie.Need-returns-4
 unfolding syndromeAt
-returns-4 c = sym (read-decides saidTwo (c .before .before .before .two-numbers .ensures) _ refl (c .before .e .given .1))
+returns-4 c b = sym (read-decides saidTwo (c .before .before .before .two-numbers .ensures) _ refl (c .before .e .given .1))
 
 returns-5 : tie.Need-returns-5
-returns-5 c = sym (in-range (c .before .before) ∙ simp (sym (c .before .is-hash .ensures) ∙ not-false _ (c .if3 .left)))
+returns-5 c b = sym (in-range (c .before .before) ∙ simp (sym (c .before .is-hash .ensures) ∙ not-false _ (c .if3 .left)))
 
 pub read-syndrome-spec : {M : Type 1} → statement M
 read-syndrome-spec =

@@ -1,5 +1,5 @@
 use Rattle.messages.specs.laws.KindLaws.{kind-known, kind-bad}
-use Rattle.messages.specs.declared.Kind.the-variants.{Open, Hash, Syndrome, Bits}
+use Rattle.messages.specs.declared.Kind.the-variants.{Open, Hash, Syndrome, Bits, Burst}
 use borrow.Author.Needs.{needs}
 use Rattle.messages.proofs.kinds.kind_of.Statement.{statement}
 use Rattle.messages.proofs.kinds.kind_of.Tie as tie
@@ -28,12 +28,19 @@ kind-number-requires-4 c κs = search needs
 returns-4 : tie.Need-returns-4
 returns-4 c = kind-known Bits (c .if4 .taken) (c .before .kind-number4 .ensures)
 
+kind-number-requires-5 : tie.Need-kind-number-requires-5
+kind-number-requires-5 c κs = search needs
+
 returns-5 : tie.Need-returns-5
-returns-5 c =
-    let first = c .before .before .before .before .before .before in
-    let second = c .before .before .before .before in
-    let third = c .before .before in
-    kind-bad _ _ (first .before .kind-number .ensures) (second .before .kind-number2 .ensures) (third .before .kind-number3 .ensures) (c .before .kind-number4 .ensures) (first .if1 .left) (second .if2 .left) (third .if3 .left) (c .if4 .left)
+returns-5 c = kind-known Burst (c .if5 .taken) (c .before .kind-number5 .ensures)
+
+returns-6 : tie.Need-returns-6
+returns-6 c =
+    let first = c .before .before .before .before .before .before .before .before in
+    let second = c .before .before .before .before .before .before in
+    let third = c .before .before .before .before in
+    let fourth = c .before .before in
+    kind-bad _ _ (first .before .kind-number .ensures) (second .before .kind-number2 .ensures) (third .before .kind-number3 .ensures) (fourth .before .kind-number4 .ensures) (c .before .kind-number5 .ensures) (first .if1 .left) (second .if2 .left) (third .if3 .left) (fourth .if4 .left) (c .if5 .left)
 
 pub kind-of-spec : {M : Type 1} → statement M
 kind-of-spec =
@@ -47,4 +54,6 @@ kind-of-spec =
     returns-3
     kind-number-requires-4
     returns-4
-    returns-5)
+    kind-number-requires-5
+    returns-5
+    returns-6)

@@ -28,6 +28,12 @@ enum-told-4 c = search needs
 read-range-requires-3 : tie.Need-read-range-requires-3
 read-range-requires-3 c κs = search needs
 
+enum-told-5 : tie.Need-enum-told-5
+enum-told-5 c = search needs
+
+read-burst-requires : tie.Need-read-burst-requires
+read-burst-requires c κs = search needs
+
 returns : tie.Need-returns
 unfolding fieldsAt
 returns c = c .read-opening .ensures ∙ rw (c .before .enum-told .given .1) refl
@@ -44,6 +50,10 @@ returns-4 : tie.Need-returns-4
 unfolding fieldsAt
 returns-4 c = c .read-range3 .ensures ∙ rw (c .before .enum-told4 .given .1) refl
 
+returns-5 : tie.Need-returns-5
+unfolding fieldsAt
+returns-5 c = c .read-burst .ensures ∙ rw (c .before .enum-told5 .given .1) refl
+
 pub read-fields-spec : {M : Type 1} → statement M
 read-fields-spec =
     tie.close
@@ -56,7 +66,10 @@ read-fields-spec =
     read-range-requires-2
     enum-told-4
     read-range-requires-3
+    enum-told-5
+    read-burst-requires
     returns
     returns-2
     returns-3
-    returns-4)
+    returns-4
+    returns-5)

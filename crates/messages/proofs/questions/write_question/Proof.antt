@@ -27,6 +27,12 @@ enum-known-q-4 c = search needs
 write-two-requires-3 : tie.Need-write-two-requires-3
 write-two-requires-3 c κs = search needs
 
+enum-known-q-5 : tie.Need-enum-known-q-5
+enum-known-q-5 c = search needs
+
+write-three-requires : tie.Need-write-three-requires
+write-three-requires c κs = search needs
+
 same-length : tie.Need-same-length
 same-length c = search needs
 
@@ -55,6 +61,13 @@ returns-4 : tie.Need-returns-4
 unfolding questionBytes
 returns-4 c = rw (c .before .before .before .before .before .q4 .given .1) (c .before .before .write-two3 .ensures)
 
+same-length-5 : tie.Need-same-length-5
+same-length-5 c = search needs
+
+returns-5 : tie.Need-returns-5
+unfolding questionBytes
+returns-5 c = rw (c .before .before .before .before .before .q5 .given .1) (c .before .before .write-three .ensures)
+
 pub write-question-spec : {M : Type 1} → statement M
 write-question-spec =
     tie.close
@@ -67,6 +80,8 @@ write-question-spec =
     write-two-requires-2
     enum-known-q-4
     write-two-requires-3
+    enum-known-q-5
+    write-three-requires
     same-length
     returns
     same-length-2
@@ -74,4 +89,6 @@ write-question-spec =
     same-length-3
     returns-3
     same-length-4
-    returns-4)
+    returns-4
+    same-length-5
+    returns-5)

@@ -1,0 +1,234 @@
+// The columns of a range: column j of b takes every b-th bit from bit j on, j from 0 (02, CR 1). A run of b bits lost or gained is one bit
+// lost or gained in each column, so that each is repaired by the repair of 01 with its own syndrome.
+ghost use mathlib.Core.Path.{_≡_};
+ghost use Prim.Native.Nat.{_≤_, _<_};
+ghost use lib.ListN.{take};
+ghost use Rattle.strings.specs.Bits.{maxBits, range, writeBits, Part};
+ghost use Rattle.codes.specs.Syndrome.{weightedSum, syndrome};
+ghost use Rattle.codes.specs.Columns.{column, columnLength, columnLimits, RunApart, repairRun};
+ghost use Rattle.codes.specs.Trials.{agreeing, triedAt};
+ghost use Rattle.codes.specs.code.Edits.{Fits};
+ghost use Rattle.codes.specs.code.Weaving.{woven, Placed, Located, ColumnFound, foundRun};
+use crate::edits::Edit;
+use crate::edits::Repair;
+use crate::weaving::RunRepair;
+
+// Whether so many columns are asked about.
+pub fn is_column_count(b: u32) -> bool
+    ensures { λ r. ⌜ r ≡ columnLimits b ⌝ }
+{
+    strings::is_between(2, b, 32)
+}
+
+// How many bits column j of n bits has. The last bound only keeps the sum in range: a message is read for a range of any length.
+pub fn column_length(b: usize, j: usize, n: usize) -> usize
+    requires { ⌜ j < b ⌝ }
+    requires { ⌜ b ≤ 32 ⌝ }
+    requires { ⌜ n ≤ 4294967295 ⌝ }
+    ensures { λ r. ⌜ r ≡ columnLength b j n ⌝ }
+{
+    (n + (b - 1 - j)) / b
+}
+
+// Column j of the range becomes the first bits of `to`.
+fn copy_column(s: &[u8], start: usize, len: usize, b: usize, j: usize, to: &mut [u8])
+    requires { ⌜ Part (now s) start len ⌝ }
+    requires { ⌜ j < b ⌝ }
+    requires { ⌜ b ≤ 32 ⌝ }
+    requires { ⌜ Part (now to) 0 (columnLength b j len) ⌝ }
+    ensures { λ r. ⌜ now (to .exit) ≡ writeBits (now (to .entry)) 0 (column b j (range (now (s .entry)) start len)) ⌝ }
+{
+    let mut k: usize = 0;
+    let mut i = j;
+    while i < len {
+        let x = strings::get_bit(s, start + i);
+        strings::set_bit(to, k, x);
+        k += 1;
+        i += b;
+    }
+}
+
+// The weighted sum of column j of the range, which has `count` bits, from the last to the first. A column of two or more has at most half
+// of a string's bits, so that all numbers stay in range.
+fn column_sum(s: &[u8], start: usize, len: usize, b: usize, j: usize, count: usize) -> usize
+    requires { ⌜ Part (now s) start len ⌝ }
+    requires { ⌜ (2 ≤ b) × (b ≤ 32) ⌝ }
+    requires { ⌜ count ≡ columnLength b j len ⌝ }
+    ensures { λ r. ⌜ r ≡ weightedSum 1 (column b j (range (now (s .entry)) start len)) ⌝ }
+{
+    let mut n: usize = 0;
+    let mut total: usize = 0;
+    let mut k = count;
+    while 0 < k {
+        k -= 1;
+        let x = strings::get_bit(s, start + (j + k * b));
+        let next = crate::sums::sum_bit(x, n, total);
+        n = next.ones;
+        total = next.sum;
+    }
+    total
+}
+
+// The syndrome of column j of the range.
+pub fn syndrome_of_column(s: &[u8], start: usize, len: usize, b: usize, j: usize) -> usize
+    requires { ⌜ Part (now s) start len ⌝ }
+    requires { ⌜ (2 ≤ b) × (b ≤ 32) ⌝ }
+    requires { ⌜ j < b ⌝ }
+    ensures { λ r. ⌜ r ≡ syndrome (column b j (range (now (s .entry)) start len)) ⌝ }
+{
+    let count = column_length(b, j, len);
+    column_sum(s, start, len, b, j, count) % (count + 1)
+}
+
+// The repair of one column: the place of its edit in the string, and the bit that is put in, if one is.
+struct ColumnRepair {
+    found: bool,
+    place: usize,
+    bit: bool,
+}
+
+// An edit of column j, which has m bits.
+fn column_repair(e: Edit, m: usize, b: usize, j: usize) -> ColumnRepair
+    requires { ⌜ Fits e m ⌝ }
+    requires { ⌜ m ≤ maxBits ⌝ }
+    requires { ⌜ j < b ⌝ }
+    requires { ⌜ b ≤ 32 ⌝ }
+    ensures { λ r. ⌜ Located e b j (r .found) (r .place) (r .bit) ⌝ }
+{
+    match e {
+        Edit::Put(k, x) => ColumnRepair {
+            found: true,
+            place: j + k * b,
+            bit: x,
+        },
+        Edit::Take(k) => ColumnRepair {
+            found: true,
+            place: j + k * b,
+            bit: false,
+        },
+    }
+}
+
+// The repair of column j of the range with the syndrome a. The column is copied to the front of `bits`.
+fn find_in_copy(
+    s: &[u8],
+    start: usize,
+    len: usize,
+    n: usize,
+    b: usize,
+    j: usize,
+    a: usize,
+    bits: &mut [u8],
+) -> ColumnRepair
+    requires { ⌜ Part (now s) start len ⌝ }
+    requires { ⌜ n ≤ maxBits ⌝ }
+    requires { ⌜ RunApart b len n ⌝ }
+    requires { ⌜ (2 ≤ b) × (b ≤ 32) ⌝ }
+    requires { ⌜ j < b ⌝ }
+    requires { ⌜ Part (now bits) 0 (columnLength b j len) ⌝ }
+    ensures { λ r. ⌜ ColumnFound b n a (range (now (s .entry)) start len) j (r .found) (r .place) (r .bit) ⌝ }
+{
+    copy_column(s, start, len, b, j, bits);
+    let m = column_length(b, j, len);
+    match crate::places::find_repair(bits, 0, m, column_length(b, j, n), a) {
+        Repair::Nothing => ColumnRepair {
+            found: false,
+            place: 0,
+            bit: false,
+        },
+        Repair::Found(e) => column_repair(e, m, b, j),
+    }
+}
+
+// The same, in a buffer of its own. Most columns are short, and a short buffer is made in less time.
+fn find_column(
+    s: &[u8],
+    start: usize,
+    len: usize,
+    n: usize,
+    b: usize,
+    j: usize,
+    a: usize,
+) -> ColumnRepair
+    requires { ⌜ Part (now s) start len ⌝ }
+    requires { ⌜ n ≤ maxBits ⌝ }
+    requires { ⌜ RunApart b len n ⌝ }
+    requires { ⌜ (2 ≤ b) × (b ≤ 32) ⌝ }
+    requires { ⌜ j < b ⌝ }
+    ensures { λ r. ⌜ ColumnFound b n a (range (now (s .entry)) start len) j (r .found) (r .place) (r .bit) ⌝ }
+{
+    if column_length(b, j, len) <= 512 {
+        let mut few = [0u8; 64];
+        return find_in_copy(s, start, len, n, b, j, a, &mut few);
+    }
+    let mut bits = [0u8; 4096];
+    find_in_copy(s, start, len, n, b, j, a, &mut bits)
+}
+
+// The repairs of the b columns of the range, with the first b of the syndromes a.
+fn find_columns(s: &[u8], start: usize, len: usize, n: usize, b: usize, a: [u32; 32]) -> RunRepair
+    requires { ⌜ Part (now s) start len ⌝ }
+    requires { ⌜ n ≤ maxBits ⌝ }
+    requires { ⌜ RunApart b len n ⌝ }
+    requires { ⌜ (2 ≤ b) × (b ≤ 32) ⌝ }
+    ensures { λ r. ⌜ foundRun (r .all) (woven (range (now (s .entry)) start len) n b (r .places) (r .bits))
+        ≡ repairRun b n (take b a) (range (now (s .entry)) start len) ⌝ }
+    ensures { λ r. ⌜ Placed b len (r .places) ⌝ }
+{
+    let mut places = [0usize; 32];
+    let mut bits = [false; 32];
+    let mut j: usize = 0;
+    while j < b {
+        let one = find_column(s, start, len, n, b, j, a[j] as usize);
+        if !one.found {
+            return RunRepair {
+                all: false,
+                places: places,
+                bits: bits,
+            };
+        }
+        places[j] = one.place;
+        bits[j] = one.bit;
+        j += 1;
+    }
+    RunRepair {
+        all: true,
+        places: places,
+        bits: bits,
+    }
+}
+
+// The repair of all columns of the range, with the first b of the syndromes a, to n bits, b more or b less, if every column has one. It is
+// written into `to` from place `at` on only if it has the hash v.
+pub fn try_run(
+    s: &[u8],
+    start: usize,
+    len: usize,
+    n: usize,
+    b: usize,
+    a: [u32; 32],
+    v: u32,
+    key: u32,
+    h: u32,
+    to: &mut [u8],
+    at: usize,
+) -> bool
+    requires { ⌜ Part (now s) start len ⌝ }
+    requires { ⌜ Part (now to) at n ⌝ }
+    requires { ⌜ RunApart b len n ⌝ }
+    requires { ⌜ (2 ≤ b) × (b ≤ 32) ⌝ }
+    requires { ⌜ h ≤ 32 ⌝ }
+    ensures { λ r. ⌜ record { settled = r; buffer = now (to .exit) }
+        ≡ triedAt (now (to .entry)) at (agreeing h key v (repairRun b n (take b a) (range (now (s .entry)) start len))) ⌝ }
+{
+    let run = find_columns(s, start, len, n, b, a);
+    if !run.all {
+        return false;
+    }
+    let hashed = crate::weaving::hash_woven(s, start, len, n, b, run, key, h);
+    if hashed != v {
+        return false;
+    }
+    crate::weaving::copy_woven(s, start, len, n, b, run, to, at);
+    true
+}
