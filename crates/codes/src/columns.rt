@@ -4,31 +4,14 @@ ghost use mathlib.Core.Path.{_≡_};
 ghost use Prim.Native.Nat.{_≤_, _<_};
 ghost use lib.ListN.{take};
 ghost use Rattle.strings.specs.Bits.{maxBits, range, writeBits, Part};
-ghost use Rattle.codes.specs.Syndrome.{weightedSum, syndrome};
-ghost use Rattle.codes.specs.Columns.{column, columnLength, columnLimits, RunApart, repairRun};
+ghost use Rattle.codes.specs.Syndrome.{syndrome};
+ghost use Rattle.codes.specs.Columns.{column, columnLength, RunApart, repairRun};
 ghost use Rattle.codes.specs.Trials.{agreeing, triedAt};
 ghost use Rattle.codes.specs.code.Edits.{Fits};
 ghost use Rattle.codes.specs.code.Weaving.{woven, Placed, Located, ColumnFound, foundRun};
 use crate::edits::Edit;
 use crate::edits::Repair;
 use crate::weaving::RunRepair;
-
-// Whether so many columns are asked about.
-pub fn is_column_count(b: u32) -> bool
-    ensures { λ r. ⌜ r ≡ columnLimits b ⌝ }
-{
-    strings::is_between(2, b, 32)
-}
-
-// How many bits column j of n bits has. The last bound only keeps the sum in range: a message is read for a range of any length.
-pub fn column_length(b: usize, j: usize, n: usize) -> usize
-    requires { ⌜ j < b ⌝ }
-    requires { ⌜ b ≤ 32 ⌝ }
-    requires { ⌜ n ≤ 4294967295 ⌝ }
-    ensures { λ r. ⌜ r ≡ columnLength b j n ⌝ }
-{
-    (n + (b - 1 - j)) / b
-}
 
 // Column j of the range becomes the first bits of `to`.
 fn copy_column(s: &[u8], start: usize, len: usize, b: usize, j: usize, to: &mut [u8])
@@ -48,36 +31,38 @@ fn copy_column(s: &[u8], start: usize, len: usize, b: usize, j: usize, to: &mut 
     }
 }
 
-// The weighted sum of column j of the range, which has `count` bits, from the last to the first. A column of two or more has at most half
-// of a string's bits, so that all numbers stay in range.
-fn column_sum(s: &[u8], start: usize, len: usize, b: usize, j: usize, count: usize) -> usize
+// The syndrome of column j of the range. The column is copied to the front of `bits`.
+fn syndrome_in_copy(
+    s: &[u8],
+    start: usize,
+    len: usize,
+    b: usize,
+    j: usize,
+    bits: &mut [u8],
+) -> usize
     requires { ⌜ Part (now s) start len ⌝ }
     requires { ⌜ (2 ≤ b) × (b ≤ 32) ⌝ }
-    requires { ⌜ count ≡ columnLength b j len ⌝ }
-    ensures { λ r. ⌜ r ≡ weightedSum 1 (column b j (range (now (s .entry)) start len)) ⌝ }
+    requires { ⌜ j < b ⌝ }
+    requires { ⌜ Part (now bits) 0 (columnLength b j len) ⌝ }
+    ensures { λ r. ⌜ r ≡ syndrome (column b j (range (now (s .entry)) start len)) ⌝ }
 {
-    let mut n: usize = 0;
-    let mut total: usize = 0;
-    let mut k = count;
-    while 0 < k {
-        k -= 1;
-        let x = strings::get_bit(s, start + (j + k * b));
-        let next = crate::sums::sum_bit(x, n, total);
-        n = next.ones;
-        total = next.sum;
-    }
-    total
+    copy_column(s, start, len, b, j, bits);
+    crate::sums::syndrome_of(bits, 0, crate::shape::column_length(b, j, len))
 }
 
-// The syndrome of column j of the range.
+// The same, in a buffer of its own. Most columns are short, and a short buffer is made in less time.
 pub fn syndrome_of_column(s: &[u8], start: usize, len: usize, b: usize, j: usize) -> usize
     requires { ⌜ Part (now s) start len ⌝ }
     requires { ⌜ (2 ≤ b) × (b ≤ 32) ⌝ }
     requires { ⌜ j < b ⌝ }
     ensures { λ r. ⌜ r ≡ syndrome (column b j (range (now (s .entry)) start len)) ⌝ }
 {
-    let count = column_length(b, j, len);
-    column_sum(s, start, len, b, j, count) % (count + 1)
+    if crate::shape::column_length(b, j, len) <= 512 {
+        let mut few = [0u8; 64];
+        return syndrome_in_copy(s, start, len, b, j, &mut few);
+    }
+    let mut bits = [0u8; 4096];
+    syndrome_in_copy(s, start, len, b, j, &mut bits)
 }
 
 // The repair of one column: the place of its edit in the string, and the bit that is put in, if one is.
@@ -129,8 +114,8 @@ fn find_in_copy(
     ensures { λ r. ⌜ ColumnFound b n a (range (now (s .entry)) start len) j (r .found) (r .place) (r .bit) ⌝ }
 {
     copy_column(s, start, len, b, j, bits);
-    let m = column_length(b, j, len);
-    match crate::places::find_repair(bits, 0, m, column_length(b, j, n), a) {
+    let m = crate::shape::column_length(b, j, len);
+    match crate::places::find_repair(bits, 0, m, crate::shape::column_length(b, j, n), a) {
         Repair::Nothing => ColumnRepair {
             found: false,
             place: 0,
@@ -157,7 +142,7 @@ fn find_column(
     requires { ⌜ j < b ⌝ }
     ensures { λ r. ⌜ ColumnFound b n a (range (now (s .entry)) start len) j (r .found) (r .place) (r .bit) ⌝ }
 {
-    if column_length(b, j, len) <= 512 {
+    if crate::shape::column_length(b, j, len) <= 512 {
         let mut few = [0u8; 64];
         return find_in_copy(s, start, len, n, b, j, a, &mut few);
     }

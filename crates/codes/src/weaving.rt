@@ -188,7 +188,7 @@ fn hash_middle(
 {
     let mut acc = sum;
     let mut v = row;
-    let mut j = from % b;
+    let mut j = crate::shape::column_of(b, from);
     let mut i = from;
     while i < behind {
         let x = woven_bit(s, start, len, n, b, i, run.places[j], run.bits[j]);
@@ -261,7 +261,7 @@ fn copy_middle(
     ensures { λ r. ⌜ now (to .exit)
         ≡ writeBits (now (to .entry)) at (wovenFrom (range (now (s .entry)) start len) n b (run .places) (run .bits) from (behind - from)) ⌝ }
 {
-    let mut j = from % b;
+    let mut j = crate::shape::column_of(b, from);
     let mut i = from;
     while i < behind {
         let x = woven_bit(s, start, len, n, b, i, run.places[j], run.bits[j]);

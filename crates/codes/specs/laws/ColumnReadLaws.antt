@@ -7,14 +7,13 @@ use native.Mathlib.Nat.{suc-mul, add-zero, div-eq-of-lt, div-lt-iff-lt-mul, le-d
 use native.Mathlib.Decide.{decLe}
 use native.Mathlib.Omega.{arith}
 use lib.ListN.{length, drop, getD, length-drop, drop-of-length-le}
-use lib.Seq.{drop-cons, drop-drop, getD-drop}
+use lib.Seq.{drop-drop, getD-drop}
 use Rattle.strings.specs.Bits.{bitAt, maxBits, range, setBit, writeBits, Part}
 use Rattle.strings.specs.laws.RangeLaws.{range-length, range-at}
 use Rattle.strings.specs.laws.WriteLaws.{length-writeBits, write-next, write-inside}
 use Rattle.codes.specs.Columns.{column, columnLength}
-use Rattle.codes.specs.code.Place.{Grows}
-use Rattle.codes.specs.laws.SyndromeLaws.{grows-as, grows-on}
-use Rattle.codes.specs.laws.ColumnLaws.{column-bit, column-drop, column-first, column-length, column-length-behind}
+use Rattle.codes.specs.Syndrome.{syndrome}
+use Rattle.codes.specs.laws.ColumnLaws.{column-drop, column-first, column-length, column-length-behind}
 
 -- ---- the length of a column, and its bound
 pub column-length-of : (B j n : ℕ) → j < B → (n + (B - 1 - j)) / B ≡ columnLength B j n
@@ -69,25 +68,9 @@ module _ (s : List ℕ) (start len B : ℕ) (pos : 1 ≤ B) where
       let r = columnRest B (range s start len) (i + B) in
       ap (λ (y : List ℕ). writeBits y (k + 1) r) f ∙ sym (write-next t k x r) ∙ ap (writeBits t k) (sym (column-turn i x h e)) ∙ g
 
--- ---- a column that is summed from its last bit to its first: what is behind bit k, and a turn of the loop
-module _ (s : List ℕ) (start len B j : ℕ) (pos : 1 ≤ B) where
-  abbrev summed : List Bool
-  summed = column B j (range s start len)
-
-  pub column-count : length summed ≡ columnLength B j len
-  column-count = column-length B pos j (range s start len) ∙ ap (columnLength B j) (range-length s start len)
-
-  pub column-sum-none : (k : ℕ) → k ≡ columnLength B j len → drop k summed ≡ []
-  column-sum-none k e = let n = column-count in drop-of-length-le summed {i = k} (omega arith)
-
-  pub column-sum-turn : (k : ℕ) (x : Bool) (n₁ x₁ n₂ x₂ : ℕ) → 0 < k → k ≤ columnLength B j len → x ≡ bitAt s (start + (j + (k - 1) * B))
-      → Grows (drop k summed) 0 0 n₁ x₁ → Grows (x ∷ []) n₁ x₁ n₂ x₂ → Grows (drop (k - 1) summed) 0 0 n₂ x₂
-  column-sum-turn k x n₁ x₁ n₂ x₂ h m e p q =
-      let n = column-count in
-      let i = column-inside B j len (k - 1) pos (omega arith) in
-      let b : x ≡ getD summed (k - 1) false = e ∙ sym (range-at s start len (j + (k - 1) * B) i) ∙ sym (column-bit B j (k - 1) (range s start len) pos) in
-      let d : drop (k - 1) summed ≡ x ∷ drop k summed = drop-cons summed (k - 1) false (omega arith) ∙ ap₂ (λ (y : Bool) (r : ℕ). y ∷ drop r summed) (sym b) (let f : suc (k - 1) ≡ k = omega arith in f) in
-      grows-as (x ∷ drop k summed) (drop (k - 1) summed) 0 0 n₂ x₂ (sym d) (grows-on (x ∷ []) (drop k summed) 0 0 n₁ x₁ n₂ x₂ p q)
+-- ---- the length of a column of a range
+pub column-count : (s : List ℕ) (start len B j : ℕ) → 1 ≤ B → length (column B j (range s start len)) ≡ columnLength B j len
+column-count s start len B j pos = column-length B pos j (range s start len) ∙ ap (columnLength B j) (range-length s start len)
 
 -- ---- a buffer of 4,096 bytes has room for a column
 pub column-room : (len B j : ℕ) → 2 ≤ B → len ≤ maxBits → (t : List ℕ) → length t ≡ 4096 → Part t 0 (columnLength B j len)
@@ -109,3 +92,7 @@ module _ (s : List ℕ) (start len B j : ℕ) (h : 2 ≤ B) (t : List ℕ) (room
         record { there = omega arith; few = omega arith },
         ap₂ (λ (x : List ℕ) (k : ℕ). range x 0 k) e (sym m) ∙ write-inside t 0 (column B j (range s start len)) (omega arith),
       )
+
+  -- so that the syndrome of the copy is the column's
+  pub syndrome-held : (u : List ℕ) (n r : ℕ) → u ≡ writeBits t 0 (column B j (range s start len)) → n ≡ columnLength B j len → r ≡ syndrome (range u 0 n) → r ≡ syndrome (column B j (range s start len))
+  syndrome-held u n r e f g = g ∙ ap (λ (x : ℕ). syndrome (range u 0 x)) f ∙ ap syndrome (column-held u e .1)

@@ -2,7 +2,6 @@
 use mathlib.Core.Path.{_≡_, refl, _∙_}
 use mathlib.Core.List.{[], _∷_}
 use Prim.Native.Nat.{_-_, _%_, _≤_, _<_}
-use native.Mathlib.Nat.{mod-lt}
 use native.Mathlib.Omega.{arith}
 use lib.ListN.{length}
 use lib.Bits.{bitXor}
@@ -25,33 +24,32 @@ Inv-loop s start len n b from behind sum row run acc₀ v₀ j₀ i₀ acc v j i
 abbrev μ-loop : tie.MeasureT-loop
 μ-loop s start len n b from behind sum row run acc₀ v₀ j₀ i₀ acc v j i = behind - i
 
-rem-j : tie.Need-rem-j Inv-loop μ-loop
-rem-j c =
-    let h = c .before .pre .1 .1 .1 .0 in search needs
+column-of-requires : tie.Need-column-of-requires Inv-loop μ-loop
+column-of-requires c κs = search needs
 
 loop-holds : tie.Need-loop-holds Inv-loop μ-loop
 loop-holds c =
-    let args = c .before .args in
-    (c .before .pre .1 .1 .1 .1 .1 .0, mod-lt (args .from) (let h = c .before .pre .1 .1 .1 .0 .0 in omega arith), refl, went-first (args .sum) (args .row) _ _ refl)
+    let args = c .before .before .args in
+    (c .before .before .pre .1 .1 .1 .1 .1 .0, c .column-of .ensures .1, c .column-of .ensures .0, went-first (args .sum) (args .row) _ _ refl)
 
 mul-woven-bit : tie.Need-mul-woven-bit Inv-loop μ-loop
 mul-woven-bit c =
-    let h = c .before .before .before .pre .1 .1 .1 .0 .1 in
+    let h = c .before .before .before .before .pre .1 .1 .1 .0 .1 in
     let j = c .before .loop .inv .1 in search needs
 
 element-copy-out-woven-bit : tie.Need-element-copy-out-woven-bit Inv-loop μ-loop
 element-copy-out-woven-bit c =
-    let h = c .before .before .before .pre .1 .1 .1 .0 .1 in
+    let h = c .before .before .before .before .pre .1 .1 .1 .0 .1 in
     let j = c .before .loop .inv .1 in omega arith
 
 element-copy-out-woven-bit-2 : tie.Need-element-copy-out-woven-bit-2 Inv-loop μ-loop
 element-copy-out-woven-bit-2 c =
-    let h = c .before .before .before .before .pre .1 .1 .1 .0 .1 in
+    let h = c .before .before .before .before .before .pre .1 .1 .1 .0 .1 in
     let j = c .before .before .loop .inv .1 in omega arith
 
 woven-bit-requires : tie.Need-woven-bit-requires Inv-loop μ-loop
 woven-bit-requires c κs =
-    let pre = c .before .before .before .before .before .pre in
+    let pre = c .before .before .before .before .before .before .pre in
     let t = c .before .before .loop-test .taken in
     let e = pre .1 .1 .1 .1 .1 .1 in
     (pre .0, (pre .1 .1 .0, (pre .1 .1 .1 .0 .1, (omega arith, pre .1 .1 .1 .1 .0 (c .before .before .before .loop .j)))))
@@ -64,8 +62,8 @@ next-column-requires c κs = c .before .before .before .before .before .loop .in
 
 add-i : tie.Need-add-i Inv-loop μ-loop
 add-i c =
-    let few = c .before .before .before .before .before .before .before .before .pre .1 .0 in
-    let e = c .before .before .before .before .before .before .before .before .pre .1 .1 .1 .1 .1 .1 in
+    let few = c .before .before .before .before .before .before .before .before .before .pre .1 .0 in
+    let e = c .before .before .before .before .before .before .before .before .before .pre .1 .1 .1 .1 .1 .1 in
     let t = c .before .before .before .before .before .loop-test .taken in search needs
 
 loop-less : tie.Need-loop-less Inv-loop μ-loop
@@ -74,7 +72,7 @@ loop-less c =
 
 loop-again : tie.Need-loop-again Inv-loop μ-loop
 loop-again c =
-    let args = c .before .before .before .before .before .before .before .before .args in
+    let args = c .before .before .before .before .before .before .before .before .before .args in
     let loop = c .before .before .before .before .before .before .loop in
     let step = next-column (args .b) (loop .i) (loop .j) (loop .inv .1) (loop .inv .2) in
     let below = next-below (args .b) (loop .i) (loop .j) (loop .inv .1) (loop .inv .2) in
@@ -89,7 +87,7 @@ loop-again c =
 
 returns : tie.Need-returns Inv-loop μ-loop
 returns c =
-    let args = c .before .before .before .args in
+    let args = c .before .before .before .before .args in
     let loop = c .before .loop in
     let q = went-last (loop .acc) (loop .v) _ _ _ (woven-last (range (args .s .now) (args .start) (args .len)) (args .n) (args .b) (args .t6 .places) (args .t6 .bits) (args .behind) (loop .i) (c .loop-test .left)) (loop .inv .3) in
     record { sums = q .0; rows = q .1 }
@@ -100,7 +98,7 @@ hash-middle-spec =
     (tie.spec
     Inv-loop
     μ-loop
-    rem-j
+    column-of-requires
     loop-holds
     mul-woven-bit
     element-copy-out-woven-bit

@@ -1,8 +1,8 @@
 -- `codes::column_length` meets its contract. Assumes nothing.
 use Rattle.codes.specs.laws.ColumnReadLaws.{column-length-of}
 use borrow.Author.Needs.{needs}
-use Rattle.codes.proofs.columns.column_length.Statement.{statement}
-use Rattle.codes.proofs.columns.column_length.Tie as tie
+use Rattle.codes.proofs.shape.column_length.Statement.{statement}
+use Rattle.codes.proofs.shape.column_length.Tie as tie
 
 sub-result : tie.Need-sub-result
 sub-result c = search needs
