@@ -1,5 +1,6 @@
 -- Laws of the definitions, for proofs.
 pub mod SyndromeLaws
+pub mod SumLaws
 pub mod RepairLaws
 pub mod ColumnLaws
 pub mod PlaceLaws

@@ -5,20 +5,10 @@ ghost use mathlib.Core.Option.{some};
 ghost use Prim.Native.Nat.{_+_, _≤_, _<_};
 ghost use Rattle.strings.specs.Bits.{maxBits, range, Part};
 ghost use Rattle.codes.specs.Repair.{putIn, takeOut, repairTo};
-ghost use Rattle.codes.specs.code.Place.{ones, zeroPlace, onePlace, rise, zeroFall, oneFall, takePlace};
+ghost use Rattle.codes.specs.code.Place.{ones, zeroPlace, onePlace, oneFall, takePlace};
 ghost use Rattle.codes.specs.code.Edits.{edited, Fits, repaired, RepairFits};
 use crate::edits::Edit;
 use crate::edits::Repair;
-
-// By how much the weighted sum of len bits has to rise for the syndrome a of one bit more.
-fn lack_of(len: usize, sum: usize, a: usize) -> usize
-    requires { ⌜ len ≤ maxBits ⌝ }
-    requires { ⌜ a ≤ len + 1 ⌝ }
-    ensures { λ r. ⌜ r ≡ rise len sum a ⌝ }
-{
-    let m = len + 2;
-    (a + (m - sum % m)) % m
-}
 
 // The first place with at most r ones from there on, where the range has w ones.
 fn zero_place(s: &[u8], start: usize, len: usize, w: usize, r: usize) -> usize
@@ -62,9 +52,9 @@ fn put_edit(s: &[u8], start: usize, len: usize, a: usize) -> Edit
     ensures { λ r. ⌜ some (edited r (range (now (s .entry)) start len)) ≡ putIn a (range (now (s .entry)) start len) ⌝ }
     ensures { λ r. ⌜ Fits r len ⌝ }
 {
-    let all = crate::sums::sums_of(s, start, len);
-    let w = all.ones;
-    let d = lack_of(len, all.sum, a);
+    let w = crate::sums::ones_of(s, start, len);
+    let sum = crate::sums::sum_modulo(s, start, len, len + 2);
+    let d = crate::sums::subtract_modulo(a, sum, len + 2);
     if d <= w {
         return Edit::Put(zero_place(s, start, len, w, d), false);
     }
@@ -83,16 +73,8 @@ fn find_put(s: &[u8], start: usize, len: usize, a: usize) -> Repair
     Repair::Found(put_edit(s, start, len, a))
 }
 
-// The fall of the sum, 0 to len - 1, that leaves the syndrome a of a range with a bit less.
-fn zero_fall(len: usize, sum: usize, a: usize) -> usize
-    requires { ⌜ a < len ⌝ }
-    requires { ⌜ len ≤ maxBits ⌝ }
-    ensures { λ r. ⌜ r ≡ zeroFall len sum a ⌝ }
-{
-    (sum % len + (len - a)) % len
-}
-
-// The same as a fall from 1 to len.
+// The fall of the sum that leaves the syndrome a of a range with a bit less: what is known as a number from 0 to len - 1, as one from 1 to
+// len.
 fn one_fall(len: usize, fall: usize) -> usize
     ensures { λ r. ⌜ r ≡ oneFall len fall ⌝ }
 {
@@ -127,10 +109,10 @@ fn take_place(s: &[u8], start: usize, len: usize, a: usize) -> usize
     if len <= a {
         return len;
     }
-    let all = crate::sums::sums_of(s, start, len);
-    let for_zero = zero_fall(len, all.sum, a);
+    let sum = crate::sums::sum_modulo(s, start, len, len);
+    let for_zero = crate::sums::subtract_modulo(sum, a, len);
     let for_one = one_fall(len, for_zero);
-    let mut right = all.ones;
+    let mut right = crate::sums::ones_of(s, start, len);
     let mut i: usize = 0;
     while i < len {
         let b = strings::get_bit(s, start + i);

@@ -1,132 +1,118 @@
-// The count of ones, the weighted sum, and the syndrome of a range: one pass each, from the last bit to the first.
+// The weighted sum of a range modulo m, kept below m after each bit by compare and subtract; the syndrome; and the count of ones.
 ghost use mathlib.Core.Path.{_≡_};
 ghost use mathlib.Core.List.{[], _∷_};
-ghost use Prim.Native.Nat.{_+_, _*_, _≤_};
+ghost use Prim.Native.Nat.{_+_, _-_, _*_, _≤_, _<_};
 ghost use Rattle.strings.specs.Bits.{range, Part, byteBits};
 ghost use Rattle.codes.specs.Syndrome.{weightedSum, syndrome};
-ghost use Rattle.codes.specs.code.Place.{ones, Grows};
+ghost use Rattle.codes.specs.code.Place.{ones};
+ghost use Rattle.codes.specs.code.Sums.{Residue, EachLess, total};
 
-// The ones of some bits and their weighted sum, the sum of the places of the ones, the first place being 1.
-pub struct Sums {
-    pub ones: usize,
-    pub sum: usize,
-}
-
-// One bit more, in front of the others: all of their places are one later, so that the ones are added to the sum. There is no branch,
-// because the bits of a string are hard to foretell. The bounds here and below only keep the additions in range: a string has at most
-// MAX_BITS ones, and their sum is below 2^32.
-pub fn sum_bit(b: bool, ones: usize, sum: usize) -> Sums
-    requires { ⌜ ones ≤ 100000 ⌝ }
-    requires { ⌜ sum ≤ 100000000000 ⌝ }
-    ensures { λ r. ⌜ Grows (b ∷ []) ones sum (r .ones) (r .sum) ⌝ }
-    ensures { λ r. ⌜ (r .ones ≤ ones + 1) × (r .sum ≤ sum + ones + 1) ⌝ }
+// x + y modulo m, for a summand y that is not above m: one subtraction is enough.
+fn add_modulo(x: u32, y: u32, m: u32) -> u32
+    requires { ⌜ m ≤ 100000 ⌝ }
+    requires { ⌜ x < m ⌝ }
+    requires { ⌜ y ≤ m ⌝ }
+    ensures { λ r. ⌜ Residue m (x + y) r ⌝ }
 {
-    let n = ones + b as usize;
-    Sums {
-        ones: n,
-        sum: sum + n,
+    let z = x + y;
+    if m <= z {
+        return z - m;
     }
+    z
 }
 
-// Four bits more, in front of the others.
-fn sum_four(a: bool, b: bool, c: bool, d: bool, ones: usize, sum: usize) -> Sums
-    requires { ⌜ ones ≤ 99000 ⌝ }
-    requires { ⌜ sum ≤ 99000000000 ⌝ }
-    ensures { λ r. ⌜ Grows (a ∷ b ∷ c ∷ d ∷ []) ones sum (r .ones) (r .sum) ⌝ }
-    ensures { λ r. ⌜ (r .ones ≤ ones + 4) × (r .sum ≤ sum + 4 * ones + 10) ⌝ }
+// a - x modulo m, of two numbers below m.
+pub fn subtract_modulo(a: usize, x: usize, m: usize) -> usize
+    requires { ⌜ m ≤ 100000 ⌝ }
+    requires { ⌜ a < m ⌝ }
+    requires { ⌜ x < m ⌝ }
+    ensures { λ r. ⌜ Residue m (a + (m - x)) r ⌝ }
 {
-    let one = sum_bit(d, ones, sum);
-    let two = sum_bit(c, one.ones, one.sum);
-    let three = sum_bit(b, two.ones, two.sum);
-    sum_bit(a, three.ones, three.sum)
+    if x <= a {
+        return a - x;
+    }
+    a + (m - x)
 }
 
-// The eight bits of a byte more, in front of the others.
-fn sum_byte(v: u8, ones: usize, sum: usize) -> Sums
-    requires { ⌜ ones ≤ 98000 ⌝ }
-    requires { ⌜ sum ≤ 98000000000 ⌝ }
-    ensures { λ r. ⌜ Grows (byteBits v) ones sum (r .ones) (r .sum) ⌝ }
-    ensures { λ r. ⌜ (r .ones ≤ ones + 8) × (r .sum ≤ sum + 8 * ones + 36) ⌝ }
+// One bit more, of the given place: the sum stays below m. There is no branch on the bit, because the bits of a string are hard to
+// foretell.
+fn sum_bit(b: bool, place: u32, sum: u32, m: u32) -> u32
+    requires { ⌜ m ≤ 100000 ⌝ }
+    requires { ⌜ sum < m ⌝ }
+    requires { ⌜ place ≤ m ⌝ }
+    ensures { λ r. ⌜ Residue m (sum + weightedSum place (b ∷ [])) r ⌝ }
 {
-    let low = sum_four(
-        (v >> 3) % 2 == 1,
-        (v >> 2) % 2 == 1,
-        (v >> 1) % 2 == 1,
-        (v >> 0) % 2 == 1,
-        ones,
-        sum,
-    );
-    sum_four(
-        (v >> 7) % 2 == 1,
-        (v >> 6) % 2 == 1,
-        (v >> 5) % 2 == 1,
-        (v >> 4) % 2 == 1,
-        low.ones,
-        low.sum,
-    )
+    add_modulo(sum, place * b as u32, m)
 }
 
-// The 8 * count bits from bit `start` on more, in front of the others, by bytes.
-fn sum_bytes(s: &[u8], start: usize, count: usize, ones: usize, sum: usize) -> Sums
+// All of the sums as one.
+fn join(sums: &[u32], m: u32) -> u32
+    requires { ⌜ 0 < m ⌝ }
+    requires { ⌜ m ≤ 100000 ⌝ }
+    requires { ⌜ EachLess m (now sums) ⌝ }
+    ensures { λ r. ⌜ Residue m (total (now (sums .entry))) r ⌝ }
+{
+    let mut all: u32 = 0;
+    let mut k: usize = 0;
+    while k < sums.len() {
+        all = add_modulo(all, sums[k], m);
+        k += 1;
+    }
+    all
+}
+
+// The first 8 * count bits, by bytes: bit k of each byte goes to sum k. A sum waits only for its own last bit, so that the eight of a
+// byte are added at the same time.
+fn sum_bytes(s: &[u8], start: usize, count: usize, m: u32) -> u32
     requires { ⌜ Part (now s) start (8 * count) ⌝ }
-    requires { ⌜ ones ≤ 8 ⌝ }
-    requires { ⌜ sum ≤ 1000 ⌝ }
-    ensures { λ r. ⌜ Grows (range (now (s .entry)) start (8 * count)) ones sum (r .ones) (r .sum) ⌝ }
+    requires { ⌜ 0 < m ⌝ }
+    requires { ⌜ 8 * count ≤ m ⌝ }
+    requires { ⌜ m ≤ 100000 ⌝ }
+    ensures { λ r. ⌜ Residue m (weightedSum 1 (range (now (s .entry)) start (8 * count))) r ⌝ }
 {
-    let mut n = ones;
-    let mut total = sum;
-    let mut i = count;
-    while 0 < i {
-        i -= 1;
-        let next = sum_byte(strings::eight_bits(s, start + 8 * i), n, total);
-        n = next.ones;
-        total = next.sum;
+    let mut sums: [u32; 8] = [0; 8];
+    let mut i: usize = 0;
+    while i < count {
+        let v = strings::eight_bits(s, start + 8 * i);
+        let mut k: usize = 0;
+        while k < 8 {
+            sums[k] = sum_bit((v >> (7 - k)) % 2 == 1, (8 * i + k + 1) as u32, sums[k], m);
+            k += 1;
+        }
+        i += 1;
     }
-    Sums {
-        ones: n,
-        sum: total,
-    }
+    join(&sums, m)
 }
 
-// Up to eight bits, one by one from the last to the first.
-fn sum_singly(s: &[u8], start: usize, len: usize) -> Sums
+// The bits from bit `from` on more, one by one.
+fn sum_singly(s: &[u8], start: usize, from: usize, len: usize, sum: u32, m: u32) -> u32
     requires { ⌜ Part (now s) start len ⌝ }
-    requires { ⌜ len ≤ 8 ⌝ }
-    ensures { λ r. ⌜ Grows (range (now (s .entry)) start len) 0 0 (r .ones) (r .sum) ⌝ }
-    ensures { λ r. ⌜ (r .ones ≤ 8) × (r .sum ≤ 1000) ⌝ }
+    requires { ⌜ from ≤ len ⌝ }
+    requires { ⌜ len ≤ m ⌝ }
+    requires { ⌜ m ≤ 100000 ⌝ }
+    requires { ⌜ Residue m (weightedSum 1 (range (now s) start from)) sum ⌝ }
+    ensures { λ r. ⌜ Residue m (weightedSum 1 (range (now (s .entry)) start len)) r ⌝ }
 {
-    let mut n: usize = 0;
-    let mut total: usize = 0;
-    let mut i = len;
-    while 0 < i {
-        i -= 1;
-        let next = sum_bit(strings::get_bit(s, start + i), n, total);
-        n = next.ones;
-        total = next.sum;
+    let mut all = sum;
+    let mut i = from;
+    while i < len {
+        all = sum_bit(strings::get_bit(s, start + i), (i + 1) as u32, all, m);
+        i += 1;
     }
-    Sums {
-        ones: n,
-        sum: total,
-    }
+    all
 }
 
-// The ones of a range and its weighted sum: the bits behind its bytes, and the bytes.
-pub fn sums_of(s: &[u8], start: usize, len: usize) -> Sums
+// The sum of the places of the ones modulo m, the first place being 1.
+pub fn sum_modulo(s: &[u8], start: usize, len: usize, m: usize) -> usize
     requires { ⌜ Part (now s) start len ⌝ }
-    ensures { λ r. ⌜ Grows (range (now (s .entry)) start len) 0 0 (r .ones) (r .sum) ⌝ }
+    requires { ⌜ 0 < m ⌝ }
+    requires { ⌜ len ≤ m ⌝ }
+    requires { ⌜ m ≤ 100000 ⌝ }
+    ensures { λ r. ⌜ Residue m (weightedSum 1 (range (now (s .entry)) start len)) r ⌝ }
 {
     let count = len / 8;
-    let behind = sum_singly(s, start + 8 * count, len - 8 * count);
-    sum_bytes(s, start, count, behind.ones, behind.sum)
-}
-
-// The sum of the places of the ones, the first place being 1.
-fn weighted_sum(s: &[u8], start: usize, len: usize) -> usize
-    requires { ⌜ Part (now s) start len ⌝ }
-    ensures { λ r. ⌜ r ≡ weightedSum 1 (range (now (s .entry)) start len) ⌝ }
-{
-    let all = sums_of(s, start, len);
-    all.sum
+    let bytes = sum_bytes(s, start, count, m as u32);
+    sum_singly(s, start, 8 * count, len, bytes, m as u32) as usize
 }
 
 // The syndrome.
@@ -134,5 +120,51 @@ pub fn syndrome_of(s: &[u8], start: usize, len: usize) -> usize
     requires { ⌜ Part (now s) start len ⌝ }
     ensures { λ r. ⌜ r ≡ syndrome (range (now (s .entry)) start len) ⌝ }
 {
-    weighted_sum(s, start, len) % (len + 1)
+    sum_modulo(s, start, len, len + 1)
+}
+
+// The ones of four bits.
+fn ones_four(a: bool, b: bool, c: bool, d: bool) -> usize
+    ensures { λ r. ⌜ r ≡ ones (a ∷ b ∷ c ∷ d ∷ []) ⌝ }
+{
+    a as usize + b as usize + (c as usize + d as usize)
+}
+
+// The ones of a byte.
+fn ones_byte(v: u8) -> usize
+    ensures { λ r. ⌜ r ≡ ones (byteBits v) ⌝ }
+{
+    let low = ones_four(
+        (v >> 3) % 2 == 1,
+        (v >> 2) % 2 == 1,
+        (v >> 1) % 2 == 1,
+        (v >> 0) % 2 == 1,
+    );
+    ones_four(
+        (v >> 7) % 2 == 1,
+        (v >> 6) % 2 == 1,
+        (v >> 5) % 2 == 1,
+        (v >> 4) % 2 == 1,
+    )
+        + low
+}
+
+// The ones of a range: those of its bytes, and of the bits behind them.
+pub fn ones_of(s: &[u8], start: usize, len: usize) -> usize
+    requires { ⌜ Part (now s) start len ⌝ }
+    ensures { λ r. ⌜ r ≡ ones (range (now (s .entry)) start len) ⌝ }
+{
+    let count = len / 8;
+    let mut n: usize = 0;
+    let mut i: usize = 0;
+    while i < count {
+        n += ones_byte(strings::eight_bits(s, start + 8 * i));
+        i += 1;
+    }
+    let mut j = 8 * count;
+    while j < len {
+        n += strings::get_bit(s, start + j) as usize;
+        j += 1;
+    }
+    n
 }

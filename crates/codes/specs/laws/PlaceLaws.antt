@@ -18,7 +18,8 @@ use Rattle.codes.specs.Syndrome.{weightedSum, syndrome}
 use Rattle.codes.specs.laws.SyndromeLaws.{weighted-sum-without, ones-next, ones-zeros, syndrome-most}
 use Rattle.codes.specs.Repair.{without, takeOut}
 use Rattle.codes.specs.laws.RepairLaws.{length-without, without-deletion, take-out-unique, take-out-no}
-use Rattle.codes.specs.code.Place.{ones, zeroPlace, onePlace, lack, rise, putBit, putPlace, firstTake, takePlace, zeroFall, oneFall}
+use Rattle.codes.specs.code.Sums.{Residue}
+use Rattle.codes.specs.code.Place.{ones, zeroPlace, onePlace, lack, putBit, putPlace, firstTake, takePlace, zeroFall, oneFall}
 
 -- ---- the place of a 0
 pub zero-place-stop : (r : ℕ) (l : List Bool) → ones l ≤ r → zeroPlace r l ≡ 0
@@ -48,10 +49,10 @@ pub one-place-next : (z : ℕ) (l l′ : List Bool) (b : Bool) → l ≡ b ∷ l
 one-place-next z l l′ true e h = one-place-one z l l′ e h ∙ ap (λ (x : ℕ). suc (onePlace x l′)) (let q : z ≡ z - 0 = omega arith in q)
 one-place-next z l l′ false e h = one-place-zero z l l′ e h
 
--- ---- the bit and the place, from the length n, the sum x, the ones w and the lack d
-pub lack-of : (a : ℕ) (l : List Bool) (n x : ℕ) → length l ≡ n → x ≡ weightedSum 1 l → rise n x a ≡ lack a l
+-- ---- the bit and the place, from the length n, the sum x modulo n + 2, the ones w and the lack d
+pub lack-is : (a : ℕ) (l : List Bool) (n x d : ℕ) → length l ≡ n → Residue (n + 2) (weightedSum 1 l) x → Residue (n + 2) (a + (n + 2 - x)) d → d ≡ lack a l
 unfolding lack
-lack-of a l n x e f = rw (e, f) refl
+lack-is a l n x d e p q = q .is ∙ ap (λ (z : ℕ). (a + (n + 2 - z)) % (n + 2)) (p .is) ∙ ap (λ (k : ℕ). (a + (k + 2 - weightedSum 1 l % (k + 2))) % (k + 2)) (sym e)
 
 module _ (a : ℕ) (l : List Bool) (w d p : ℕ) (e : w ≡ ones l) (f : d ≡ lack a l) where
   pub put-zero : d ≤ w → p ≡ zeroPlace d l → (p ≡ putPlace a l) × (false ≡ putBit a l)
@@ -94,6 +95,10 @@ pub ones-most : (s : List ℕ) (start len i : ℕ) → ones (rest s start len i)
 ones-most s start len i = let o = ones-zeros (rest s start len i) in let l = range-length s (start + i) (len - i) in omega arith
 
 -- ---- what a fall of the sum leaves
+-- the fall from the sum x modulo n
+pub zero-fall-is : (n x a y f : ℕ) → Residue n x y → Residue n (y + (n - a)) f → f ≡ zeroFall n x a
+zero-fall-is n x a y f p q = q .is ∙ ap (λ (z : ℕ). (z + (n - a)) % n) (p .is)
+
 eqb-iff : (a b c d : ℕ) → (a ≡ b → c ≡ d) → (c ≡ d → a ≡ b) → eqb a b ≡ eqb c d
 eqb-iff a b c d f g = go (ℕ-discrete a b)
   where

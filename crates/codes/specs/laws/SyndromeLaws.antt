@@ -1,18 +1,15 @@
 -- Laws of the weighted sum and of the syndrome, for every length.
-use mathlib.Core.Path.{_≡_, refl, sym, ap, ap₂, _∙_, subst}
+use mathlib.Core.Path.{_≡_, refl, sym, ap, _∙_}
 use mathlib.Core.Bool.{Bool, true, false, cond}
 use mathlib.Core.List.{List, [], _∷_, _++_}
-use Prim.Native.Nat.{ℕ, zero, suc, _+_, _-_, _*_, _%_, _≤_, _<_}
-use native.Mathlib.Nat.{mod-lt, le-refl, add-zero, add-suc, zero-add, zero-mul, suc-mul, mul-zero, mul-add, add-mul}
+use Prim.Native.Nat.{ℕ, zero, suc, _+_, _%_, _≤_, _<_}
+use native.Mathlib.Nat.{mod-lt, le-refl, add-zero, zero-add}
 use native.Mathlib.Omega.{arith}
-use lib.ListN.{length, take, drop, getD, length-append}
+use lib.ListN.{length, take, drop, getD}
 use mir.Val.{boolByte}
-use Rattle.strings.specs.Bits.{bitAt, range, byteBits, Eight}
-use Rattle.strings.specs.laws.RangeLaws.{rest, rest-is}
-use Rattle.strings.specs.laws.ByteLaws.{eight-next}
 use Rattle.codes.specs.Syndrome.{weightedSum, syndrome}
 use Rattle.codes.specs.Repair.{without, insertAt}
-use Rattle.codes.specs.code.Place.{ones, zeros, Grows}
+use Rattle.codes.specs.code.Place.{ones, zeros}
 
 -- ---- the sum
 pub weighted-sum-append : (k : ℕ) (l m : List Bool) → weightedSum k (l ++ m) ≡ weightedSum k l + weightedSum (k + length l) m
@@ -33,12 +30,6 @@ pub weighted-sum-later : (k : ℕ) (l : List Bool) → weightedSum (suc k) l ≡
 weighted-sum-later k [] = refl
 weighted-sum-later k (true ∷ l) = let h = weighted-sum-later (suc k) l in omega arith
 weighted-sum-later k (false ∷ l) = weighted-sum-later (suc k) l
-
--- every place d later
-pub weighted-sum-later-by : (d k : ℕ) (l : List Bool) → weightedSum (k + d) l ≡ weightedSum k l + d * ones l
-weighted-sum-later-by zero k l = ap (λ (x : ℕ). weightedSum x l) (add-zero k) ∙ omega (arith, zero-mul (ones l))
-weighted-sum-later-by (suc d) k l =
-    ap (λ (x : ℕ). weightedSum x l) (add-suc k d) ∙ weighted-sum-later (k + d) l ∙ ap (λ (x : ℕ). x + ones l) (weighted-sum-later-by d k l) ∙ omega (arith, suc-mul d (ones l))
 
 -- a 0 put in adds the ones to its right
 pub weighted-sum-insert-zero : (k p : ℕ) (l : List Bool) → weightedSum k (insertAt p false l) ≡ weightedSum k l + ones (drop p l)
@@ -111,11 +102,6 @@ pub syndrome-most : (l : List Bool) → syndrome l ≤ length l
 unfolding syndrome
 syndrome-most l = let h : weightedSum 1 l % (length l + 1) < length l + 1 = mod-lt (weightedSum 1 l) (omega arith) in omega arith
 
--- from the numbers that a function holds: the length and the sum
-pub syndrome-is : (l : List Bool) (n x : ℕ) → length l ≡ n → x ≡ weightedSum 1 l → x % (n + 1) ≡ syndrome l
-unfolding syndrome
-syndrome-is l n x e f = rw (e, f) refl
-
 -- ---- one more bit read, for a function that passes over the bits
 pub bit-most : (b : Bool) → boolByte b ≤ 1
 bit-most true = omega arith
@@ -127,43 +113,3 @@ ones-next l l′ b e = ap ones e ∙ go b
     go : (b : Bool) → ones (b ∷ l′) ≡ ones l′ + boolByte b
     go true = omega arith
     go false = omega arith
-
--- ---- bits read in front of others
-pub grows-none : (l : List Bool) (n x : ℕ) → l ≡ [] → Grows l n x n x
-grows-none l n x e = subst (λ (m : List Bool). Grows m n x n x) (sym e) (record { counts = omega arith; sums = omega (arith, zero-mul n) })
-
-pub grows-bit : (b : Bool) (n x : ℕ) → Grows (b ∷ []) n x (n + boolByte b) (x + (n + boolByte b))
-grows-bit true n x = record { counts = omega arith; sums = omega arith }
-grows-bit false n x = record { counts = omega arith; sums = omega arith }
-
-pub grows-on : (l m : List Bool) (n x n₁ x₁ n₂ x₂ : ℕ) → Grows m n x n₁ x₁ → Grows l n₁ x₁ n₂ x₂ → Grows (l ++ m) n x n₂ x₂
-grows-on l m n x n₁ x₁ n₂ x₂ p q = record { counts = omega (arith, ones-append l m, p .counts, q .counts); sums = q .sums ∙ go }
-  where
-    go : weightedSum 1 l + x₁ + length l * n₁ ≡ weightedSum 1 (l ++ m) + x + length (l ++ m) * n
-    go =
-        ap₂ (λ (u v : ℕ). weightedSum 1 l + u + length l * v) (p .sums) (p .counts)
-        ∙ sym (ap₂ (λ (u v : ℕ). u + x + v * n) (weighted-sum-append 1 l m ∙ ap (λ (u : ℕ). weightedSum 1 l + u) (weighted-sum-later-by (length l) 1 m)) (length-append l m)
-        ∙ omega (arith, mul-add (length l) (ones m) n, add-mul (length l) (length m) n))
-
-pub grows-as : (l m : List Bool) (n x n₁ x₁ : ℕ) → l ≡ m → Grows l n x n₁ x₁ → Grows m n x n₁ x₁
-grows-as l m n x n₁ x₁ e p = subst (λ (u : List Bool). Grows u n x n₁ x₁) e p
-
--- a turn of a loop that reads from the last bit or byte to the first
-pub grows-single : (s : List ℕ) (a len i : ℕ) (b : Bool) (n x n₁ x₁ n₂ x₂ : ℕ) → 0 < i → i ≤ len → b ≡ bitAt s (a + (i - 1)) → Grows (rest s a len i) n x n₁ x₁ → Grows (b ∷ []) n₁ x₁ n₂ x₂
-    → Grows (rest s a len (i - 1)) n x n₂ x₂
-grows-single s a len i b n x n₁ x₁ n₂ x₂ h k e p q =
-    let j : i - 1 + 1 ≡ i = omega arith in
-    grows-as ((b ∷ []) ++ rest s a len i) (rest s a len (i - 1)) n x n₂ x₂ (sym (rest-is s a len (i - 1) b b (omega arith) e refl ∙ ap (λ (u : ℕ). b ∷ rest s a len u) j))
-    (grows-on (b ∷ []) (rest s a len i) n x n₁ x₁ n₂ x₂ p q)
-
-pub grows-byte : (s : List ℕ) (a len i v : ℕ) (n x n₁ x₁ n₂ x₂ : ℕ) → 0 < i → i ≤ len → Eight s (a + 8 * (i - 1)) v → Grows (range s (a + 8 * i) (8 * (len - i))) n x n₁ x₁ → Grows (byteBits v) n₁ x₁ n₂ x₂
-    → Grows (range s (a + 8 * (i - 1)) (8 * (len - (i - 1)))) n x n₂ x₂
-grows-byte s a len i v n x n₁ x₁ n₂ x₂ h k e p q =
-    let j : i - 1 + 1 ≡ i = omega arith in
-    grows-as (byteBits v ++ range s (a + 8 * i) (8 * (len - i))) _ n x n₂ x₂
-    (sym (eight-next s a len (i - 1) v (omega arith) e ∙ ap (λ (u : ℕ). byteBits v ++ range s (a + 8 * u) (8 * (len - u))) j))
-    (grows-on (byteBits v) (range s (a + 8 * i) (8 * (len - i))) n x n₁ x₁ n₂ x₂ p q)
-
--- from nothing: the ones and the sum themselves
-pub grows-whole : (l : List Bool) (n x : ℕ) → Grows l 0 0 n x → (n ≡ ones l) × (x ≡ weightedSum 1 l)
-grows-whole l n x p = let c = p .counts in let s = p .sums in let z = mul-zero (length l) in (omega arith, omega arith)

@@ -37,7 +37,7 @@ by-bits s p v h e = record {
   bits = ext-getD false (range s p 8) (byteBits v) (range-length s p 8) (λ j l. let n = range-length s p 8 in range-at s p 8 j (omega arith) ∙ sym (e j (omega arith)) ∙ sym (byte-bit v j (omega arith)));
 }
 
-eight-bit : (s : List ℕ) (p v j : ℕ) → Eight s p v → j < 8 → bitAt s (p + j) ≡ eqb (v / 2 ^ (7 - j) % 2) 1
+pub eight-bit : (s : List ℕ) (p v j : ℕ) → Eight s p v → j < 8 → bitAt s (p + j) ≡ eqb (v / 2 ^ (7 - j) % 2) 1
 eight-bit s p v j e l = sym (range-at s p 8 j l) ∙ ap (λ (x : List Bool). getD x j false) (e .bits) ∙ byte-bit v j l
 
 -- ---- eight bits that are a byte of the string

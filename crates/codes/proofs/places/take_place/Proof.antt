@@ -5,38 +5,41 @@ use native.Mathlib.Omega.{arith}
 use lib.Dec.{eqb}
 use Rattle.strings.specs.Bits.{range}
 use Rattle.strings.specs.laws.RangeLaws.{rest, rest-first, rest-is, range-length}
-use Rattle.codes.specs.Syndrome.{syndrome}
+use Rattle.codes.specs.Syndrome.{weightedSum, syndrome}
 use Rattle.codes.specs.Repair.{without}
 use Rattle.codes.specs.code.Place.{ones, firstTake, takePlace}
-use Rattle.codes.specs.laws.SyndromeLaws.{ones-next, grows-whole}
-use Rattle.codes.specs.laws.PlaceLaws.{ones-most, take-test, first-take-here, first-take-next, first-take-end, take-place-is, take-place-above}
+use Rattle.codes.specs.laws.SyndromeLaws.{ones-next}
+use Rattle.codes.specs.laws.PlaceLaws.{ones-most, take-test, zero-fall-is, first-take-here, first-take-next, first-take-end, take-place-is, take-place-above}
 use borrow.Author.Tests.{eqb-true, eqb-false}
 use borrow.Author.Needs.{needs}
 use Rattle.codes.proofs.places.take_place.Statement.{statement}
 use Rattle.codes.proofs.places.take_place.Tie as tie
 
 abbrev Inv-loop : tie.InvT-loop
-Inv-loop s start len a for-zero for-one right₀ i₀ right i = (i ≤ len) × (right ≡ ones (rest s start len i)) × (firstTake a (range s start len) (len - i) i ≡ takePlace a (range s start len))
+Inv-loop s start len a sum for-zero for-one right₀ i₀ right i = (i ≤ len) × (right ≡ ones (rest s start len i)) × (firstTake a (range s start len) (len - i) i ≡ takePlace a (range s start len))
 
 abbrev μ-loop : tie.MeasureT-loop
-μ-loop s start len a for-zero for-one right₀ i₀ right i = len - i
+μ-loop s start len a sum for-zero for-one right₀ i₀ right i = len - i
 
 returns : tie.Need-returns Inv-loop μ-loop
 returns c = take-place-above (c .before .before .args .a) (range (c .before .before .args .s .now) (c .before .before .args .start) (c .before .before .args .len)) (c .before .before .args .len) (range-length _ _ _) (c .if1 .taken)
 
-sums-of-requires : tie.Need-sums-of-requires Inv-loop μ-loop
-sums-of-requires c κs = search needs
+sum-modulo-requires : tie.Need-sum-modulo-requires Inv-loop μ-loop
+sum-modulo-requires c κs = search needs
 
-zero-fall-requires : tie.Need-zero-fall-requires Inv-loop μ-loop
-zero-fall-requires c κs = search needs
+subtract-modulo-requires : tie.Need-subtract-modulo-requires Inv-loop μ-loop
+subtract-modulo-requires c κs = search needs
 
 one-fall-requires : tie.Need-one-fall-requires Inv-loop μ-loop
 one-fall-requires c κs = search needs
 
+ones-of-requires : tie.Need-ones-of-requires Inv-loop μ-loop
+ones-of-requires c κs = search needs
+
 loop-holds : tie.Need-loop-holds Inv-loop μ-loop
-loop-holds c = let args = c .before .before .before .before .before .args in (
+loop-holds c = let args = c .before .before .before .before .before .before .args in (
   search needs,
-  grows-whole (range (args .s .now) (args .start) (args .len)) _ _ (c .before .before .sums-of .ensures) .0 ∙ sym (ap ones (rest-first (args .s .now) (args .start) (args .len))),
+  c .ones-of .ensures ∙ sym (ap ones (rest-first (args .s .now) (args .start) (args .len))),
   take-place-is (args .a) (range (args .s .now) (args .start) (args .len)) (args .len) (range-length _ _ _),
 )
 
@@ -48,7 +51,7 @@ get-bit-requires c κs = search needs
 
 add-for-bit : tie.Need-add-for-bit Inv-loop μ-loop
 add-for-bit c =
-    let s = c .before .before .before .before .before .before .before .before in
+    let s = c .before .before .before .before .before .before .before .before .before in
     let m = ones-most (s .args .s .now) (s .args .start) (s .args .len) (c .before .before .loop .i) in omega arith
 
 for-bit-requires : tie.Need-for-bit-requires Inv-loop μ-loop
@@ -56,16 +59,19 @@ for-bit-requires c κs = search needs
 
 -- what a turn's test found
 found : (c : tie.After-for-bit Inv-loop μ-loop)
-    → let args = c .before .before .before .before .before .before .before .before .before .args in
+    → let args = c .before .before .before .before .before .before .before .before .before .before .args in
     c .for-bit .result ≡ eqb (syndrome (without (c .before .before .before .loop .i) (range (args .s .now) (args .start) (args .len)))) (args .a)
 found c =
-    let args = c .before .before .before .before .before .before .before .before .before .args in
+    let args = c .before .before .before .before .before .before .before .before .before .before .args in
     let loop = c .before .before .before .loop in
-    let sum = grows-whole (range (args .s .now) (args .start) (args .len)) _ _ (c .before .before .before .before .before .before .sums-of .ensures) .1 in
-    take-test (args .s .now) (args .start) (args .len) (args .a) (loop .i) (c .before .before .before .before .before .before .sums-of .result .sum) (loop .right) (c .before .get-bit .result) (c .before .before .loop-test .taken) (c .before .before .before .before .before .before .before .if1 .left) (c .before .get-bit .ensures) sum (loop .inv .1) (c .for-bit .result) (c .before .before .before .before .before .zero-fall .result) (c .before .before .before .before .one-fall .result) (c .before .before .before .before .before .zero-fall .ensures) (c .before .before .before .before .one-fall .ensures) (c .for-bit .ensures)
+    let sum = weightedSum 1 (range (args .s .now) (args .start) (args .len)) in
+    let fall = c .before .before .before .before .before .before .subtract-modulo in
+    let below = c .before .before .before .before .before .before .before .sum-modulo in
+    let for-one = c .before .before .before .before .before .one-fall in
+    take-test (args .s .now) (args .start) (args .len) (args .a) (loop .i) sum (loop .right) (c .before .get-bit .result) (c .before .before .loop-test .taken) (c .before .before .before .before .before .before .before .before .if1 .left) (c .before .get-bit .ensures) refl (loop .inv .1) (c .for-bit .result) (fall .result) (for-one .result) (zero-fall-is (args .len) sum (args .a) (below .result) (fall .result) (below .ensures) (fall .ensures)) (for-one .ensures) (c .for-bit .ensures)
 
 returns-2 : tie.Need-returns-2 Inv-loop μ-loop
-returns-2 c = let args = c .before .before .before .before .before .before .before .before .before .before .args in
+returns-2 c = let args = c .before .before .before .before .before .before .before .before .before .before .before .args in
     let loop = c .before .before .before .before .loop in
     let bits = range (args .s .now) (args .start) (args .len) in
     sym (first-take-here (args .a) bits (args .len) (loop .i) (c .before .before .before .loop-test .taken) (eqb-true (syndrome (without (loop .i) bits)) (args .a) (sym (found (c .before)) ∙ c .if2 .taken))) ∙ loop .inv .2
@@ -75,7 +81,7 @@ cast-right c = search needs
 
 sub-right : tie.Need-sub-right Inv-loop μ-loop
 sub-right c =
-    let s = c .before .before .before .before .before .before .before .before .before .before in
+    let s = c .before .before .before .before .before .before .before .before .before .before .before in
     let b = c .before .before .get-bit .result in
     let o = ones-next _ _ b (rest-is (s .args .s .now) (s .args .start) (s .args .len) (c .before .before .before .before .loop .i) b b (c .before .before .before .loop-test .taken) (c .before .before .get-bit .ensures) refl) in omega arith
 
@@ -86,7 +92,7 @@ loop-less : tie.Need-loop-less Inv-loop μ-loop
 loop-less c = search needs
 
 loop-again : tie.Need-loop-again Inv-loop μ-loop
-loop-again c = let args = c .before .before .before .before .before .before .before .before .before .before .args in
+loop-again c = let args = c .before .before .before .before .before .before .before .before .before .before .before .args in
     let loop = c .before .before .before .before .loop in
     let b = c .before .before .get-bit .result in
     let bits = range (args .s .now) (args .start) (args .len) in
@@ -98,7 +104,7 @@ loop-again c = let args = c .before .before .before .before .before .before .bef
 
 returns-3 : tie.Need-returns-3 Inv-loop μ-loop
 returns-3 c =
-    let s = c .before .before .before .before .before .before .before in
+    let s = c .before .before .before .before .before .before .before .before in
     sym (first-take-end (s .args .a) (range (s .args .s .now) (s .args .start) (s .args .len)) (s .args .len) (c .before .loop .i) (c .loop-test .left)) ∙ c .before .loop .inv .2
 
 pub take-place-spec : {M : Type 1} → statement M
@@ -108,9 +114,10 @@ take-place-spec =
     Inv-loop
     μ-loop
     returns
-    sums-of-requires
-    zero-fall-requires
+    sum-modulo-requires
+    subtract-modulo-requires
     one-fall-requires
+    ones-of-requires
     loop-holds
     add-get-bit
     get-bit-requires

@@ -1,27 +1,23 @@
--- `codes::sum_singly` meets its contract: what was read are the bits from i on. Assumes nothing.
-use mathlib.Core.Path.{_≡_, ap, _∙_}
-use Prim.Native.Nat.{_+_, _-_, _*_, _≤_}
-use native.Mathlib.Nat.{le-refl}
+-- `codes::sum_singly` meets its contract: the sum is that of the bits before bit i. Assumes nothing.
+use Prim.Native.Nat.{_-_, _≤_}
+use mathlib.Core.Path.{_≡_, ap}
 use native.Mathlib.Omega.{arith}
-use Rattle.strings.specs.laws.RangeLaws.{rest, rest-first, rest-last}
-use Rattle.codes.specs.code.Place.{Grows}
-use Rattle.codes.specs.laws.SyndromeLaws.{grows-none, grows-as, grows-single}
 use borrow.Author.Needs.{needs}
+use Rattle.strings.specs.Bits.{range}
+use Rattle.codes.specs.Syndrome.{weightedSum}
+use Rattle.codes.specs.code.Sums.{Residue}
+use Rattle.codes.specs.laws.SumLaws.{residue-next, residue-as}
 use Rattle.codes.proofs.sums.sum_singly.Statement.{statement}
 use Rattle.codes.proofs.sums.sum_singly.Tie as tie
 
 abbrev Inv-loop : tie.InvT-loop
-Inv-loop s start len n₀ total₀ i₀ n total i = (i ≤ len) × (n + i ≤ len) × (total + 10 * i ≤ 10 * len) × Grows (rest s start len i) 0 0 n total
+Inv-loop s start from len sum m all₀ i₀ all i = (i ≤ len) × Residue m (weightedSum 1 (range s start i)) all
 
 abbrev μ-loop : tie.MeasureT-loop
-μ-loop s start len n₀ total₀ i₀ n total i = i
+μ-loop s start from len sum m all₀ i₀ all i = len - i
 
 loop-holds : tie.Need-loop-holds Inv-loop μ-loop
-loop-holds c = let args = c .before .args in
-    (omega arith, omega arith, omega arith, grows-none _ _ _ (rest-last (args .s .now) (args .start) (args .len) (args .len) (le-refl (args .len))))
-
-sub-i : tie.Need-sub-i Inv-loop μ-loop
-sub-i c = search needs
+loop-holds c = search needs
 
 add-get-bit : tie.Need-add-get-bit Inv-loop μ-loop
 add-get-bit c = search needs
@@ -29,23 +25,33 @@ add-get-bit c = search needs
 get-bit-requires : tie.Need-get-bit-requires Inv-loop μ-loop
 get-bit-requires c κs = search needs
 
+add-sum-bit : tie.Need-add-sum-bit Inv-loop μ-loop
+add-sum-bit c = search needs
+
+cast-sum-bit : tie.Need-cast-sum-bit Inv-loop μ-loop
+cast-sum-bit c = search needs
+
 sum-bit-requires : tie.Need-sum-bit-requires Inv-loop μ-loop
 sum-bit-requires c κs = search needs
+
+add-i : tie.Need-add-i Inv-loop μ-loop
+add-i c = search needs
 
 loop-less : tie.Need-loop-less Inv-loop μ-loop
 loop-less c = search needs
 
 loop-again : tie.Need-loop-again Inv-loop μ-loop
-loop-again c = let loop = c .before .before .before .loop in
+loop-again c =
     let args = c .before .before .before .before .before .args in
-    let m = c .sum-bit .ensures .1 in
-    (omega arith, omega arith, omega arith, grows-single (args .s .now) (args .start) (args .len) (loop .i) (c .before .get-bit .result) _ _ (loop .n) (loop .total) _ _ (c .before .before .loop-test .taken) (loop .inv .0) (c .before .get-bit .ensures) (loop .inv .3) (c .sum-bit .ensures .0))
+    let loop = c .before .before .before .loop in
+    let get-bit = c .before .get-bit in
+    (omega arith, residue-next _ (args .s .now) (args .start) (loop .i) (get-bit .result) (loop .all) _ (get-bit .ensures) (loop .inv .1) (c .sum-bit .ensures))
 
 returns : tie.Need-returns Inv-loop μ-loop
-returns c = let loop = c .before .loop in
+returns c =
     let args = c .before .before .before .args in
-    let i : loop .i ≡ 0 = omega arith in
-    (grows-as _ _ _ _ _ _ (ap (rest (args .s .now) (args .start) (args .len)) i ∙ rest-first (args .s .now) (args .start) (args .len)) (loop .inv .3), (omega arith, omega arith))
+    let loop = c .before .loop in
+    let i : loop .i ≡ args .len = omega arith in residue-as _ _ _ _ (ap (λ x. weightedSum 1 (range (args .s .now) (args .start) x)) i) (loop .inv .1)
 
 pub sum-singly-spec : {M : Type 1} → statement M
 sum-singly-spec =
@@ -54,10 +60,12 @@ sum-singly-spec =
     Inv-loop
     μ-loop
     loop-holds
-    sub-i
     add-get-bit
     get-bit-requires
+    add-sum-bit
+    cast-sum-bit
     sum-bit-requires
+    add-i
     loop-less
     loop-again
     returns)
