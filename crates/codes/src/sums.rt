@@ -7,7 +7,8 @@ ghost use Rattle.codes.specs.Syndrome.{weightedSum, syndrome};
 ghost use Rattle.codes.specs.code.Place.{ones};
 ghost use Rattle.codes.specs.code.Sums.{Residue, EachLess, total};
 
-// x + y modulo m, for a summand y that is not above m: one subtraction is enough.
+// x + y modulo m, for a summand y that is not above m: one subtraction is enough. The bound on m here and below only keeps the addition in
+// range: a range has at most MAX_BITS bits, and its modulus is at most two more.
 fn add_modulo(x: u32, y: u32, m: u32) -> u32
     requires { ⌜ m ≤ 100000 ⌝ }
     requires { ⌜ x < m ⌝ }
@@ -34,8 +35,8 @@ pub fn subtract_modulo(a: usize, x: usize, m: usize) -> usize
     a + (m - x)
 }
 
-// One bit more, of the given place: the sum stays below m. There is no branch on the bit, because the bits of a string are hard to
-// foretell.
+// One bit more, of the given place: the sum, which is that of the bits so far modulo m, stays below m and is that of one bit more. There is
+// no branch on the bit, because the bits of a string are hard to foretell.
 fn sum_bit(b: bool, place: u32, sum: u32, m: u32) -> u32
     requires { ⌜ m ≤ 100000 ⌝ }
     requires { ⌜ sum < m ⌝ }
@@ -61,8 +62,8 @@ fn join(sums: &[u32], m: u32) -> u32
     all
 }
 
-// The first 8 * count bits, by bytes: bit k of each byte goes to sum k. A sum waits only for its own last bit, so that the eight of a
-// byte are added at the same time.
+// The sum of the first 8 * count bits, by bytes: bit k of each byte goes to sum k. A sum waits only for its own last bit, so that the eight
+// of a byte are added at the same time.
 fn sum_bytes(s: &[u8], start: usize, count: usize, m: u32) -> u32
     requires { ⌜ Part (now s) start (8 * count) ⌝ }
     requires { ⌜ 0 < m ⌝ }
@@ -149,22 +150,30 @@ fn ones_byte(v: u8) -> usize
         + low
 }
 
-// The ones of a range: those of its bytes, and of the bits behind them.
-pub fn ones_of(s: &[u8], start: usize, len: usize) -> usize
-    requires { ⌜ Part (now s) start len ⌝ }
-    ensures { λ r. ⌜ r ≡ ones (range (now (s .entry)) start len) ⌝ }
+// The ones of the first 8 * count bits, by bytes.
+fn ones_bytes(s: &[u8], start: usize, count: usize) -> usize
+    requires { ⌜ Part (now s) start (8 * count) ⌝ }
+    ensures { λ r. ⌜ r ≡ ones (range (now (s .entry)) start (8 * count)) ⌝ }
 {
-    let count = len / 8;
     let mut n: usize = 0;
     let mut i: usize = 0;
     while i < count {
         n += ones_byte(strings::eight_bits(s, start + 8 * i));
         i += 1;
     }
-    let mut j = 8 * count;
-    while j < len {
-        n += strings::get_bit(s, start + j) as usize;
-        j += 1;
+    n
+}
+
+// The ones of a range: those of its bytes, and of the bits behind them.
+pub fn ones_of(s: &[u8], start: usize, len: usize) -> usize
+    requires { ⌜ Part (now s) start len ⌝ }
+    ensures { λ r. ⌜ r ≡ ones (range (now (s .entry)) start len) ⌝ }
+{
+    let mut i = 8 * (len / 8);
+    let mut n = ones_bytes(s, start, len / 8);
+    while i < len {
+        n += strings::get_bit(s, start + i) as usize;
+        i += 1;
     }
     n
 }
