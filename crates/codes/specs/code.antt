@@ -4,3 +4,4 @@ pub mod Sums
 pub mod Edits
 pub mod Weaving
 pub mod HashForms
+pub mod Strides

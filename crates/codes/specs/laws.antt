@@ -7,6 +7,7 @@ pub mod PlaceLaws
 pub mod EditLaws
 pub mod HashLaws
 pub mod ColumnReadLaws
+pub mod ColumnByteLaws
 pub mod WeavingLaws
 pub mod ColumnEditLaws
 pub mod TrialLaws

@@ -1,27 +1,63 @@
 // The columns of a range: column j of b takes every b-th bit from bit j on, j from 0 (02, CR 1). A run of b bits lost or gained is one bit
 // lost or gained in each column, so that each is repaired by the repair of 01 with its own syndrome.
 ghost use mathlib.Core.Path.{_≡_};
-ghost use Prim.Native.Nat.{_≤_, _<_};
-ghost use lib.ListN.{take};
-ghost use Rattle.strings.specs.Bits.{maxBits, range, writeBits, Part};
+ghost use Prim.Native.Nat.{_*_, _≤_, _<_};
+ghost use lib.ListN.{length, take};
+ghost use Rattle.strings.specs.Bits.{maxBits, range, byteBits, writeBits, Part};
 ghost use Rattle.codes.specs.Syndrome.{syndrome};
 ghost use Rattle.codes.specs.Columns.{column, columnLength, RunApart, repairRun};
 ghost use Rattle.codes.specs.Trials.{agreeing, triedAt};
 ghost use Rattle.codes.specs.code.Edits.{Fits};
+ghost use Rattle.codes.specs.code.Strides.{strided, binary, StridedPart};
 ghost use Rattle.codes.specs.code.Weaving.{woven, Placed, Located, ColumnFound, foundRun};
 use crate::edits::Edit;
 use crate::edits::Repair;
 use crate::weaving::RunRepair;
 
-// Column j of the range becomes the first bits of `to`.
-fn copy_column(s: &[u8], start: usize, len: usize, b: usize, j: usize, to: &mut [u8])
-    requires { ⌜ Part (now s) start len ⌝ }
-    requires { ⌜ j < b ⌝ }
-    requires { ⌜ b ≤ 32 ⌝ }
-    requires { ⌜ Part (now to) 0 (columnLength b j len) ⌝ }
-    ensures { λ r. ⌜ now (to .exit) ≡ writeBits (now (to .entry)) 0 (column b j (range (now (s .entry)) start len)) ⌝ }
+// The four bits p, p + b, .. of s as a number, the first as its highest digit. There is no branch, because the bits of a string are hard to
+// foretell.
+fn four_apart(s: &[u8], p: usize, b: usize) -> u8
+    requires { ⌜ StridedPart (now s) p b 4 ⌝ }
+    ensures { λ r. ⌜ r ≡ binary (strided (now (s .entry)) p b 4) ⌝ }
 {
-    let mut k: usize = 0;
+    let first = strings::get_bit(s, p) as u8;
+    let second = strings::get_bit(s, p + b) as u8;
+    let third = strings::get_bit(s, p + 2 * b) as u8;
+    let fourth = strings::get_bit(s, p + 3 * b) as u8;
+    8 * first + 4 * second + 2 * third + fourth
+}
+
+// The eight bits p, p + b, .. of s as a byte.
+fn eight_apart(s: &[u8], p: usize, b: usize) -> u8
+    requires { ⌜ StridedPart (now s) p b 8 ⌝ }
+    ensures { λ r. ⌜ byteBits r ≡ strided (now (s .entry)) p b 8 ⌝ }
+{
+    16 * four_apart(s, p, b) + four_apart(s, p + 4 * b, b)
+}
+
+// The 8 * count bits p, p + b, .. of s become the first count bytes of `to`.
+fn copy_groups(s: &[u8], p: usize, b: usize, count: usize, to: &mut [u8])
+    requires { ⌜ StridedPart (now s) p b (8 * count) ⌝ }
+    requires { ⌜ count ≤ length (now to) ⌝ }
+    ensures { λ r. ⌜ now (to .exit) ≡ writeBits (now (to .entry)) 0 (strided (now (s .entry)) p b (8 * count)) ⌝ }
+{
+    let mut q = p;
+    let mut i: usize = 0;
+    while i < count {
+        to[i] = eight_apart(s, q, b);
+        q += 8 * b;
+        i += 1;
+    }
+}
+
+// Every b-th bit of the range from bit j on is written into `to` from place `at` on, one by one.
+fn copy_singly(s: &[u8], start: usize, len: usize, b: usize, j: usize, to: &mut [u8], at: usize)
+    requires { ⌜ Part (now s) start len ⌝ }
+    requires { ⌜ (1 ≤ b) × (b ≤ 32) ⌝ }
+    requires { ⌜ Part (now to) at (columnLength b j len) ⌝ }
+    ensures { λ r. ⌜ now (to .exit) ≡ writeBits (now (to .entry)) at (column b j (range (now (s .entry)) start len)) ⌝ }
+{
+    let mut k = at;
     let mut i = j;
     while i < len {
         let x = strings::get_bit(s, start + i);
@@ -29,6 +65,20 @@ fn copy_column(s: &[u8], start: usize, len: usize, b: usize, j: usize, to: &mut 
         k += 1;
         i += b;
     }
+}
+
+// Column j of the range becomes the first bits of `to`: whole bytes as long as there are eight bits more, and the bits that are left.
+fn copy_column(s: &[u8], start: usize, len: usize, b: usize, j: usize, to: &mut [u8])
+    requires { ⌜ Part (now s) start len ⌝ }
+    requires { ⌜ j < b ⌝ }
+    requires { ⌜ b ≤ 32 ⌝ }
+    requires { ⌜ Part (now to) 0 (columnLength b j len) ⌝ }
+    ensures { λ r. ⌜ now (to .exit) ≡ writeBits (now (to .entry)) 0 (column b j (range (now (s .entry)) start len)) ⌝ }
+{
+    let bytes = crate::shape::column_length(b, j, len) / 8;
+    let done = 8 * bytes;
+    copy_groups(s, start + j, b, bytes, to);
+    copy_singly(s, start, len, b, j + done * b, to, done);
 }
 
 // The syndrome of column j of the range. The column is copied to the front of `bits`.

@@ -7,7 +7,7 @@ use native.Mathlib.Nat.{mod-eq-of-lt, mod-add-mod, add-mod-mod, add-mod-right, a
 use native.Mathlib.Numerals.{add-one}
 use native.Mathlib.Decide.{ℕ-discrete}
 use native.Mathlib.Omega.{arith}
-use lib.ListN.{length, getD, set, take, length-set, replicate}
+use lib.ListN.{length, getD, set, take, length-set, replicate, getD-replicate}
 use lib.Seq.{getD-set-same, getD-set-other}
 use lib.Dec.{eqb}
 use borrow.Author.Tests.{eq-eqb, ne-eqb}
@@ -91,19 +91,8 @@ lane-other s a k n e =
 residue-are : (m x y r r′ : ℕ) → x ≡ y → r ≡ r′ → Residue m x r → Residue m y r′
 residue-are m x y r r′ e f p = subst (λ (z : ℕ). Residue m y z) f (residue-as m x y r e p)
 
-zero-sums : (k : ℕ) → k < 8 → _≡_ {A = ℕ} (getD (replicate 8 0) k 0) 0
-zero-sums zero g = refl
-zero-sums (suc zero) g = refl
-zero-sums (suc (suc zero)) g = refl
-zero-sums (suc (suc (suc zero))) g = refl
-zero-sums (suc (suc (suc (suc zero)))) g = refl
-zero-sums (suc (suc (suc (suc (suc zero))))) g = refl
-zero-sums (suc (suc (suc (suc (suc (suc zero)))))) g = refl
-zero-sums (suc (suc (suc (suc (suc (suc (suc zero))))))) g = refl
-zero-sums (suc (suc (suc (suc (suc (suc (suc (suc k)))))))) g = absurd (omega arith)
-
 pub lanes-none : (m : ℕ) (s : List ℕ) (a : ℕ) → 0 < m → Lanes m s a 0 (replicate 8 0)
-lanes-none m s a h = record { eight = refl; each = λ k g. residue-are m 0 _ 0 _ (sym (lane-none s a k)) (sym (zero-sums k g)) (residue-less m 0 h) }
+lanes-none m s a h = record { eight = refl; each = λ k g. residue-are m 0 _ 0 _ (sym (lane-none s a k)) (sym (getD-replicate 8 k 0 0 g)) (residue-less m 0 h) }
 
 -- one bit more, in its sum
 pub lanes-next : (m : ℕ) (s : List ℕ) (a n : ℕ) (ts : List ℕ) (k : ℕ) (b : Bool) (r : ℕ) → k < 8 → n % 8 ≡ k → b ≡ bitAt s (a + n) → Lanes m s a n ts

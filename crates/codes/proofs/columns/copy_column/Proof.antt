@@ -1,84 +1,85 @@
--- `codes::copy_column` meets its contract: what is left of the column, written behind what is copied, gives the whole. Assumes nothing.
-use mathlib.Core.Path.{_≡_, refl, sym, ap, _∙_}
-use Prim.Native.Nat.{_+_, _-_}
+-- `codes::copy_column` meets its contract: whole bytes, and the bits that are left behind them. Assumes nothing.
+use mathlib.Core.Path.{ap, _∙_}
+use Prim.Native.Nat.{_*_, _/_}
 use native.Mathlib.Omega.{arith}
 use lib.ListN.{length}
-use Rattle.strings.specs.Bits.{range, writeBits}
-use Rattle.strings.specs.laws.BitLaws.{length-setBit}
-use Rattle.strings.specs.laws.RangeLaws.{range-length}
-use Rattle.strings.specs.laws.WriteLaws.{write-none}
-use Rattle.codes.specs.Columns.{column, columnLength}
-use Rattle.codes.specs.laws.ColumnLaws.{column-length}
-use Rattle.codes.specs.laws.ColumnReadLaws.{columnRest, column-rest-first, column-rest-last, column-turn, column-copied}
+use Rattle.strings.specs.laws.WriteLaws.{length-writeBits}
+use Rattle.codes.specs.laws.ColumnByteLaws.{bytes-within, column-part, column-left, column-joined}
 use borrow.Author.Needs.{needs}
 use Rattle.codes.proofs.columns.copy_column.Statement.{statement}
 use Rattle.codes.proofs.columns.copy_column.Tie as tie
 
-abbrev Inv-loop : tie.InvT-loop
-Inv-loop s start len b j to₀ k₀ i₀ to k i = (length to ≡ length to₀) × (k + length (columnRest b (range s start len) i) ≡ columnLength b j len)
-    × (writeBits to k (columnRest b (range s start len) i) ≡ writeBits to₀ 0 (column b j (range s start len)))
+column-length-requires : tie.Need-column-length-requires
+column-length-requires c κs = search needs
 
-abbrev μ-loop : tie.MeasureT-loop
-μ-loop s start len b j to₀ k₀ i₀ to k i = len - i
+mul-done : tie.Need-mul-done
+mul-done c = search needs
 
-loop-holds : tie.Need-loop-holds Inv-loop μ-loop
-loop-holds c =
-    let first = column-rest-first (c .before .before .args .b) (c .before .before .args .j) (range (c .before .before .args .s .now) (c .before .before .args .start) (c .before .before .args .len)) in
-    let long = column-length (c .before .before .args .b) (let h = c .before .before .pre .1 .0 in omega arith) (c .before .before .args .j) (range (c .before .before .args .s .now) (c .before .before .args .start) (c .before .before .args .len)) ∙ ap (columnLength (c .before .before .args .b) (c .before .before .args .j)) (range-length _ _ _) in
-    (refl, (let e = ap length first in omega arith), ap (writeBits (c .before .before .args .to .now) 0) first)
+add-copy-groups : tie.Need-add-copy-groups
+add-copy-groups c = search needs
 
-add-get-bit : tie.Need-add-get-bit Inv-loop μ-loop
-add-get-bit c = search needs
+copy-groups-requires : tie.Need-copy-groups-requires
+copy-groups-requires c κs =
+    let top = c .before .before .before .before in
+    let long = c .before .column-length in
+    let within = bytes-within (top .args .b) (top .args .j) (top .args .len) (long .result) (top .pre .1 .0) (long .ensures) in
+    let there = top .pre .1 .1 .1 .there in
+    let e = long .ensures in
+    (column-part (top .args .s .now) (top .args .start) (top .args .len) (top .args .b) (top .args .j) (8 * (long .result / 8)) (top .pre .0) within, omega arith)
 
-get-bit-requires : tie.Need-get-bit-requires Inv-loop μ-loop
-get-bit-requires c κs = search needs
+mul-copy-singly : tie.Need-mul-copy-singly
+mul-copy-singly c =
+    let top = c .before .before .before .before .before .before .before in
+    let long = c .before .before .before .before .column-length in
+    let within = bytes-within (top .args .b) (top .args .j) (top .args .len) (long .result) (top .pre .1 .0) (long .ensures) in
+    let few = top .pre .0 .few in
+    let most = top .pre .1 .1 .0 in
+    omega arith
 
-set-bit-requires : tie.Need-set-bit-requires Inv-loop μ-loop
-set-bit-requires c κs =
-    let e = ap length (column-turn (c .before .before .before .before .before .before .args .s .now) (c .before .before .before .before .before .before .args .start) (c .before .before .before .before .before .before .args .len) (c .before .before .before .before .before .before .args .b) (let h = c .before .before .before .before .before .before .pre .1 .0 in omega arith) (c .before .before .before .loop .i) _ (c .before .before .loop-test .taken) (c .before .get-bit .ensures)) in
-    let inv = c .before .before .before .loop .inv in
-    let there = c .before .before .before .before .before .before .pre .1 .1 .1 .there in omega arith
+add-copy-singly : tie.Need-add-copy-singly
+add-copy-singly c =
+    let top = c .before .before .before .before .before .before .before in
+    let long = c .before .before .before .before .column-length in
+    let within = bytes-within (top .args .b) (top .args .j) (top .args .len) (long .result) (top .pre .1 .0) (long .ensures) in
+    let few = top .pre .0 .few in
+    let most = top .pre .1 .1 .0 in
+    omega arith
 
-add-k : tie.Need-add-k Inv-loop μ-loop
-add-k c =
-    let e = c .before .before .before .before .before .before .loop .inv .1 in
-    let few = c .before .before .before .before .before .before .before .before .before .pre .1 .1 .1 .few in search needs
+copy-singly-requires : tie.Need-copy-singly-requires
+copy-singly-requires c κs =
+    let top = c .before .before .before .before .before .before .before .before in
+    let long = c .before .before .before .before .before .column-length in
+    let within = bytes-within (top .args .b) (top .args .j) (top .args .len) (long .result) (top .pre .1 .0) (long .ensures) in
+    let small = top .pre .1 .0 in
+    let room = top .pre .1 .1 .1 in
+    let there = room .there in
+    let few = room .few in
+    let left = column-left (top .args .s .now) (top .args .start) (top .args .len) (top .args .b) (omega arith) (top .args .j) (8 * (long .result / 8)) within in
+    let n = ap length (c .before .before .before .copy-groups .ensures) ∙ length-writeBits (top .args .to .now) 0 _ in
+    (top .pre .0, ((omega arith, top .pre .1 .1 .0), record { there = omega arith; few = omega arith }))
 
-add-i : tie.Need-add-i Inv-loop μ-loop
-add-i c = search needs
-
-loop-less : tie.Need-loop-less Inv-loop μ-loop
-loop-less c = search needs
-
-loop-again : tie.Need-loop-again Inv-loop μ-loop
-loop-again c =
-    let turn = column-turn (c .before .before .before .before .before .before .before .before .before .args .s .now) (c .before .before .before .before .before .before .before .before .before .args .start) (c .before .before .before .before .before .before .before .before .before .args .len) (c .before .before .before .before .before .before .before .before .before .args .b) (let h = c .before .before .before .before .before .before .before .before .before .pre .1 .0 in omega arith) (c .before .before .before .before .before .before .loop .i) _ (c .before .before .before .before .before .loop-test .taken) (c .before .before .before .before .get-bit .ensures) in (
-      ap length (c .before .before .set-bit .ensures) ∙ length-setBit (c .before .before .before .before .before .before .loop .to) (c .before .before .before .before .before .before .loop .k) (c .before .before .before .before .get-bit .result) ∙ c .before .before .before .before .before .before .loop .inv .0,
-      (let e = ap length turn in let f = c .before .before .before .before .before .before .loop .inv .1 in omega arith),
-      column-copied (c .before .before .before .before .before .before .before .before .before .args .s .now) (c .before .before .before .before .before .before .before .before .before .args .start) (c .before .before .before .before .before .before .before .before .before .args .len) (c .before .before .before .before .before .before .before .before .before .args .b) (let h = c .before .before .before .before .before .before .before .before .before .pre .1 .0 in omega arith) (c .before .before .before .before .before .before .loop .to) _ _ (c .before .before .before .before .before .before .loop .k) (c .before .before .before .before .before .before .loop .i) (c .before .before .before .before .get-bit .result) (c .before .before .before .before .before .loop-test .taken) (c .before .before .before .before .get-bit .ensures) (c .before .before .set-bit .ensures) (c .before .before .before .before .before .before .loop .inv .2),
-    )
-
-same-length : tie.Need-same-length Inv-loop μ-loop
+same-length : tie.Need-same-length
 same-length c = search needs
 
-returns : tie.Need-returns Inv-loop μ-loop
-returns c = sym (write-none (c .before .loop .to) (c .before .loop .k))
-    ∙ ap (writeBits (c .before .loop .to) (c .before .loop .k)) (sym (column-rest-last (c .before .before .before .before .args .b) (c .before .loop .i) (range (c .before .before .before .before .args .s .now) (c .before .before .before .before .args .start) (c .before .before .before .before .args .len)) (let n = range-length (c .before .before .before .before .args .s .now) (c .before .before .before .before .args .start) (c .before .before .before .before .args .len) in let l = c .loop-test .left in omega arith)))
-    ∙ c .before .loop .inv .2
+returns : tie.Need-returns
+returns c =
+    let top = c .before .before .before .before .before .before .before .before .before .before .before in
+    let long = c .before .before .before .before .before .before .before .before .column-length in
+    let within = bytes-within (top .args .b) (top .args .j) (top .args .len) (long .result) (top .pre .1 .0) (long .ensures) in
+    let small = top .pre .1 .0 in
+    column-joined (top .args .s .now) (top .args .start) (top .args .len) (top .args .b) (omega arith) (top .args .j) (8 * (long .result / 8)) (top .args .to .now) _ _ within
+    (c .before .before .before .before .before .before .copy-groups .ensures) (c .before .before .copy-singly .ensures)
 
 pub copy-column-spec : {M : Type 1} → statement M
 copy-column-spec =
     tie.close
     (tie.spec
-    Inv-loop
-    μ-loop
-    loop-holds
-    add-get-bit
-    get-bit-requires
-    set-bit-requires
-    add-k
-    add-i
-    loop-less
-    loop-again
+    column-length-requires
+    mul-done
+    add-copy-groups
+    copy-groups-requires
+    mul-copy-singly
+    add-copy-singly
+    copy-singly-requires
     same-length
     returns)
