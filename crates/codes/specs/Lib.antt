@@ -1,4 +1,4 @@
--- What a reader must believe of codes and hash: Syndrome, Repair, Columns, Hash, Trials, Entries. Place, Edits, Weaving, HashForms and Strides are the code's way to them. The rest is laws.
+-- What a reader must believe of codes and hash: Syndrome, Repair, Columns, Hash, Trials, Entries. Place, Sums, Edits, Weaving, HashForms and Strides are the code's way to them. The rest is laws.
 pub mod Syndrome
 pub mod Repair
 pub mod Columns
