@@ -50,9 +50,9 @@ one-place-next z l l′ true e h = one-place-one z l l′ e h ∙ ap (λ (x : �
 one-place-next z l l′ false e h = one-place-zero z l l′ e h
 
 -- ---- the bit and the place, from the length n, the sum x modulo n + 2, the ones w and the lack d
-pub lack-is : (a : ℕ) (l : List Bool) (n x d : ℕ) → length l ≡ n → Residue (n + 2) (weightedSum 1 l) x → Residue (n + 2) (a + (n + 2 - x)) d → d ≡ lack a l
+pub lack-residue : (a : ℕ) (l : List Bool) (n x d : ℕ) → length l ≡ n → Residue (n + 2) (weightedSum 1 l) x → Residue (n + 2) (a + (n + 2 - x)) d → d ≡ lack a l
 unfolding lack
-lack-is a l n x d e p q = q .is ∙ ap (λ (z : ℕ). (a + (n + 2 - z)) % (n + 2)) (p .is) ∙ ap (λ (k : ℕ). (a + (k + 2 - weightedSum 1 l % (k + 2))) % (k + 2)) (sym e)
+lack-residue a l n x d e p q = q .is ∙ ap (λ (z : ℕ). (a + (n + 2 - z)) % (n + 2)) (p .is) ∙ ap (λ (k : ℕ). (a + (k + 2 - weightedSum 1 l % (k + 2))) % (k + 2)) (sym e)
 
 module _ (a : ℕ) (l : List Bool) (w d p : ℕ) (e : w ≡ ones l) (f : d ≡ lack a l) where
   pub put-zero : d ≤ w → p ≡ zeroPlace d l → (p ≡ putPlace a l) × (false ≡ putBit a l)

@@ -2,7 +2,7 @@
 use mathlib.Core.Bool.{true, false}
 use Rattle.strings.specs.Bits.{range}
 use Rattle.strings.specs.laws.RangeLaws.{range-length}
-use Rattle.codes.specs.laws.PlaceLaws.{lack-is, put-zero, put-one}
+use Rattle.codes.specs.laws.PlaceLaws.{lack-residue, put-zero, put-one}
 use Rattle.codes.specs.laws.EditLaws.{put-repair}
 use borrow.Author.Needs.{needs}
 use Rattle.codes.proofs.places.put_edit.Statement.{statement}
@@ -34,7 +34,7 @@ returns c =
     let sum = c .before .before .before .sum-modulo in
     let ones = c .before .before .before .before .ones-of in
     let bits = range (args .s .now) (args .start) (args .len) in
-    let q = put-zero (args .a) bits (ones .result) (lack .result) (c .zero-place .result) (ones .ensures) (lack-is (args .a) bits (args .len) (sum .result) (lack .result) (range-length _ _ _) (sum .ensures) (lack .ensures)) (c .before .if1 .taken) (c .zero-place .ensures) in
+    let q = put-zero (args .a) bits (ones .result) (lack .result) (c .zero-place .result) (ones .ensures) (lack-residue (args .a) bits (args .len) (sum .result) (lack .result) (range-length _ _ _) (sum .ensures) (lack .ensures)) (c .before .if1 .taken) (c .zero-place .ensures) in
     put-repair (args .a) bits (args .len) (range-length _ _ _) (c .zero-place .result) false (start .pre .1) (q .0) (q .1)
 
 sub-one-place : tie.Need-sub-one-place
@@ -54,7 +54,7 @@ returns-2 c =
     let sum = c .before .before .before .sum-modulo in
     let ones = c .before .before .before .before .ones-of in
     let bits = range (args .s .now) (args .start) (args .len) in
-    let q = put-one (args .a) bits (ones .result) (lack .result) (c .one-place .result) (ones .ensures) (lack-is (args .a) bits (args .len) (sum .result) (lack .result) (range-length _ _ _) (sum .ensures) (lack .ensures)) (c .before .if1 .left) (c .one-place .ensures) in
+    let q = put-one (args .a) bits (ones .result) (lack .result) (c .one-place .result) (ones .ensures) (lack-residue (args .a) bits (args .len) (sum .result) (lack .result) (range-length _ _ _) (sum .ensures) (lack .ensures)) (c .before .if1 .left) (c .one-place .ensures) in
     put-repair (args .a) bits (args .len) (range-length _ _ _) (c .one-place .result) true (start .pre .1) (q .0) (q .1)
 
 pub put-edit-spec : {M : Type 1} → statement M
