@@ -1,5 +1,7 @@
 //! The functions on strings, library against model, on valid and damaged input.
 
+#[path = "../src/by_subtraction.rs"]
+mod by_subtraction;
 mod common;
 
 use common::*;
@@ -164,6 +166,59 @@ fn full_length() {
         unpack(Library::syndrome(&long, MAX_BITS + 1)),
         Err(Refusal::BadString)
     );
+}
+
+/// One bit less and one more, as far as a string has so many.
+fn neighbours(bits: usize) -> impl Iterator<Item = usize> {
+    (bits.saturating_sub(1)..=bits + 1).filter(move |&n| n != bits && n <= MAX_BITS)
+}
+
+/// The benchmark's syndrome in the library's way against the model.
+fn check_syndrome(s: &[u8], bits: usize) {
+    let got = by_subtraction::syndrome(s, bits) as u64;
+    assert_eq!(unpack(Model::syndrome(s, bits)), Ok(got), "{s:02x?}");
+}
+
+/// Its repair.
+fn check_repair(random: &mut Random, s: &[u8], bits: usize, n: usize, a: usize) {
+    let mut out = random.bytes(n.div_ceil(8) + 1);
+    let mut model = out.clone();
+    let got = by_subtraction::repair(s, bits, n, a, &mut out) as u64;
+    let want = unpack(Model::repair(s, bits, n, a, &mut model));
+    assert_eq!(want, Ok(got), "{bits} bits, n {n}, a {a}");
+    assert!(out == model, "{bits} bits, n {n}, a {a}");
+}
+
+#[test]
+fn by_subtraction_short() {
+    let random = &mut Random::new(26);
+    for kind in REFERENCES {
+        for bits in 0..=300 {
+            let s = packed(&reference(random, kind, bits)).into_bytes();
+            check_syndrome(&s, bits);
+            for n in neighbours(bits) {
+                for a in 0..=n {
+                    check_repair(random, &s, bits, n, a);
+                }
+            }
+        }
+    }
+}
+
+#[test]
+fn by_subtraction_long() {
+    let random = &mut Random::new(27);
+    for kind in REFERENCES {
+        for bits in [4_095, 4_096, MAX_BITS - 1, MAX_BITS] {
+            let s = packed(&reference(random, kind, bits)).into_bytes();
+            check_syndrome(&s, bits);
+            for n in neighbours(bits) {
+                for a in [0, n, random.between(0, n), random.between(0, n)] {
+                    check_repair(random, &s, bits, n, a);
+                }
+            }
+        }
+    }
 }
 
 #[test]

@@ -1,9 +1,13 @@
-//! Times of the library against the Rust model, in one run on the same inputs.
+//! Times of the library against the Rust model, in one run on the same inputs; of syndrome and
+//! repairs also against Rust that sums and repairs the same way.
 //!
 //! `cargo run --release --offline --bin bench`
 //!
 //! Each figure is the best of many short samples, taken in turns. Buffers are made once and not
 //! cleared between calls; the opening of a whole run clears the string, on both sides.
+
+#[path = "../by_subtraction.rs"]
+mod by_subtraction;
 
 use std::hint::black_box;
 use std::time::Instant;
@@ -33,27 +37,19 @@ const RATIO: f64 = 1.1;
 
 fn main() {
     if cfg!(feature = "model-only") {
-        println!("Built with model-only: both columns are the model.");
+        println!("Built with model-only: the columns called Rattle are the model.");
     }
     println!("{} cores, {} GB of memory.", cores(), memory());
     println!("Times in microseconds, best of {SAMPLES} samples; buffers not cleared first.");
-    let mut worst: f64 = 0.0;
     let mut growth = Vec::new();
-    println!();
-    println!(
-        "{:<24}{:>8}{:>12}{:>12}{:>8}",
-        "function", "bits", "Rattle", "Rust", "ratio"
-    );
-    for (name, functions) in FUNCTIONS {
-        let times = LENGTHS.map(|bits| {
-            let (library, model) = functions(bits);
-            let ratio = library / model;
-            worst = worst.max(ratio);
-            println!("{name:<24}{bits:>8}{library:>12.2}{model:>12.2}{ratio:>8.2}");
-            library
-        });
+    let mut worst = print_functions(&FUNCTIONS, "Rust", |name, times| {
         growth.push((name.to_string(), times[2] / times[1], None));
-    }
+    });
+    worst = worst.max(print_functions(
+        &FUNCTIONS_SAME_WAY,
+        "Rust, same way",
+        |_, _| (),
+    ));
     println!();
     println!(
         "{:<24}{:>8}{:>12}{:>12}{:>8}{:>14}",
@@ -127,6 +123,33 @@ fn main() {
     println!("Worst ratio {worst:.3}, {verdict} the bound of {RATIO}.");
 }
 
+/// Prints the functions' times at all lengths, Rust's under this title; `see` gets the library's.
+/// Gives the worst ratio.
+fn print_functions(
+    functions: &[Function],
+    title: &str,
+    mut see: impl FnMut(&str, [f64; 3]),
+) -> f64 {
+    let width = 12.max(title.len() + 2);
+    let mut worst: f64 = 0.0;
+    println!();
+    println!(
+        "{:<24}{:>8}{:>12}{title:>width$}{:>8}",
+        "function", "bits", "Rattle", "ratio"
+    );
+    for (name, time) in functions {
+        let times = LENGTHS.map(|bits| {
+            let (library, rust) = time(bits);
+            let ratio = library / rust;
+            worst = worst.max(ratio);
+            println!("{name:<24}{bits:>8}{library:>12.2}{rust:>width$.2}{ratio:>8.2}");
+            library
+        });
+        see(name, times);
+    }
+    worst
+}
+
 fn cores() -> usize {
     std::thread::available_parallelism().map_or(0, |cores| cores.get())
 }
@@ -142,13 +165,13 @@ fn memory() -> String {
 // Time
 
 /// Best times of one call of each, in microseconds.
-fn compare(mut library: impl FnMut(), mut model: impl FnMut()) -> (f64, f64) {
+fn compare(mut library: impl FnMut(), mut rust: impl FnMut()) -> (f64, f64) {
     let calls_library = calls_for_a_sample(&mut library);
-    let calls_model = calls_for_a_sample(&mut model);
+    let calls_rust = calls_for_a_sample(&mut rust);
     let mut best = (f64::MAX, f64::MAX);
     for _ in 0..SAMPLES {
         best.0 = best.0.min(time_of(&mut library, calls_library));
-        best.1 = best.1.min(time_of(&mut model, calls_model));
+        best.1 = best.1.min(time_of(&mut rust, calls_rust));
     }
     (best.0 * 1e6, best.1 * 1e6)
 }
@@ -200,22 +223,58 @@ fn packed(bits: &[bool]) -> BitString {
 
 type Function = (&'static str, fn(usize) -> (f64, f64));
 
+/// Against the model.
 const FUNCTIONS: [Function; 6] = [
-    ("syndrome", time_syndrome),
+    ("syndrome", time_syndrome::<Model>),
     ("hash", time_hash),
-    ("put-in", time_put_in),
-    ("take-out", time_take_out),
+    ("put-in", time_put_in::<Model>),
+    ("take-out", time_take_out::<Model>),
     ("anchor, random Y", time_anchor_random),
     ("anchor, all-zero Y", time_anchor_zero),
 ];
 
-fn time_syndrome(bits: usize) -> (f64, f64) {
-    fn call<E: Ends>(s: &BitString) -> u64 {
-        black_box(E::syndrome(black_box(s.as_bytes()), s.bits()))
+/// Against Rust that sums and repairs the same way.
+const FUNCTIONS_SAME_WAY: [Function; 3] = [
+    ("syndrome", time_syndrome::<SameWay>),
+    ("put-in", time_put_in::<SameWay>),
+    ("take-out", time_take_out::<SameWay>),
+];
+
+/// Syndrome and repairs: of library, model or `by_subtraction`.
+trait Codes {
+    fn syndrome_of(s: &[u8], bits: usize) -> u64;
+    fn repair_of(s: &[u8], bits: usize, n: usize, a: usize, out: &mut [u8]) -> u64;
+}
+
+impl<E: Ends> Codes for E {
+    fn syndrome_of(s: &[u8], bits: usize) -> u64 {
+        E::syndrome(s, bits)
+    }
+
+    fn repair_of(s: &[u8], bits: usize, n: usize, a: usize, out: &mut [u8]) -> u64 {
+        E::repair(s, bits, n, a, out)
+    }
+}
+
+struct SameWay;
+
+impl Codes for SameWay {
+    fn syndrome_of(s: &[u8], bits: usize) -> u64 {
+        pack(Ok(by_subtraction::syndrome(s, bits).into()))
+    }
+
+    fn repair_of(s: &[u8], bits: usize, n: usize, a: usize, out: &mut [u8]) -> u64 {
+        pack(Ok(by_subtraction::repair(s, bits, n, a, out).into()))
+    }
+}
+
+fn time_syndrome<R: Codes>(bits: usize) -> (f64, f64) {
+    fn call<C: Codes>(s: &BitString) -> u64 {
+        black_box(C::syndrome_of(black_box(s.as_bytes()), s.bits()))
     }
     let s = packed(&random_bits(bits, &mut Random(1)));
-    assert_eq!(call::<Library>(&s), call::<Model>(&s));
-    compare(|| _ = call::<Library>(&s), || _ = call::<Model>(&s))
+    assert_eq!(call::<Library>(&s), call::<R>(&s));
+    compare(|| _ = call::<Library>(&s), || _ = call::<R>(&s))
 }
 
 fn time_hash(bits: usize) -> (f64, f64) {
@@ -228,9 +287,9 @@ fn time_hash(bits: usize) -> (f64, f64) {
 }
 
 /// A repair of `s` to the string `x`.
-fn time_repair(s: &BitString, x: &BitString) -> (f64, f64) {
-    fn call<E: Ends>(s: &BitString, n: usize, a: usize, out: &mut [u8]) -> u64 {
-        black_box(E::repair(
+fn time_repair<R: Codes>(s: &BitString, x: &BitString) -> (f64, f64) {
+    fn call<C: Codes>(s: &BitString, n: usize, a: usize, out: &mut [u8]) -> u64 {
+        black_box(C::repair_of(
             black_box(s.as_bytes()),
             s.bits(),
             n,
@@ -241,28 +300,28 @@ fn time_repair(s: &BitString, x: &BitString) -> (f64, f64) {
     let n = x.bits();
     let a = unpack(Model::syndrome(x.as_bytes(), n)).expect("legal") as usize;
     let mut outs = [vec![0; n.div_ceil(8)], vec![0; n.div_ceil(8)]];
-    let [out, out_model] = &mut outs;
+    let [out, out_rust] = &mut outs;
     assert_eq!(call::<Library>(s, n, a, out), pack(Ok(1)));
-    assert_eq!(call::<Model>(s, n, a, out_model), pack(Ok(1)));
-    assert_eq!((&out[..], &out_model[..]), (x.as_bytes(), x.as_bytes()));
+    assert_eq!(call::<R>(s, n, a, out_rust), pack(Ok(1)));
+    assert_eq!((&out[..], &out_rust[..]), (x.as_bytes(), x.as_bytes()));
     compare(
         || _ = call::<Library>(s, n, a, out),
-        || _ = call::<Model>(s, n, a, out_model),
+        || _ = call::<R>(s, n, a, out_rust),
     )
 }
 
-fn time_put_in(bits: usize) -> (f64, f64) {
+fn time_put_in<R: Codes>(bits: usize) -> (f64, f64) {
     let x = random_bits(bits, &mut Random(3));
     let mut s = x.clone();
     s.remove(bits / 2);
-    time_repair(&packed(&s), &packed(&x))
+    time_repair::<R>(&packed(&s), &packed(&x))
 }
 
-fn time_take_out(bits: usize) -> (f64, f64) {
+fn time_take_out<R: Codes>(bits: usize) -> (f64, f64) {
     let s = random_bits(bits, &mut Random(4));
     let mut x = s.clone();
     x.remove(bits / 2);
-    time_repair(&packed(&s), &packed(&x))
+    time_repair::<R>(&packed(&s), &packed(&x))
 }
 
 /// A search of the whole window that finds no place.
