@@ -79,19 +79,19 @@ fn sum_modulo(bytes: &[u8], bits: usize, m: usize) -> usize {
 }
 
 /// The ones of a byte: its bits added.
-fn ones_byte(byte: u8) -> usize {
-    let bit = |k: u32| ((byte >> k) % 2) as usize;
+fn ones_byte(byte: u8) -> u32 {
+    let bit = |k: u32| ((byte >> k) % 2) as u32;
     let low = bit(3) + bit(2) + (bit(1) + bit(0));
     bit(7) + bit(6) + (bit(5) + bit(4)) + low
 }
 
 fn ones(bytes: &[u8], bits: usize) -> usize {
     let count = bits / 8;
-    let mut ones = bytes[..count].iter().map(|&byte| ones_byte(byte)).sum();
+    let mut ones: u32 = bytes[..count].iter().map(|&byte| ones_byte(byte)).sum();
     for i in 8 * count..bits {
-        ones += get_bit(bytes, i) as usize;
+        ones += get_bit(bytes, i) as u32;
     }
-    ones
+    ones as usize
 }
 
 // Places

@@ -125,14 +125,14 @@ pub fn syndrome_of(s: &[u8], start: usize, len: usize) -> usize
 }
 
 // The ones of four bits.
-fn ones_four(a: bool, b: bool, c: bool, d: bool) -> usize
+fn ones_four(a: bool, b: bool, c: bool, d: bool) -> u32
     ensures { λ r. ⌜ r ≡ ones (a ∷ b ∷ c ∷ d ∷ []) ⌝ }
 {
-    a as usize + b as usize + (c as usize + d as usize)
+    a as u32 + b as u32 + (c as u32 + d as u32)
 }
 
 // The ones of a byte.
-fn ones_byte(v: u8) -> usize
+fn ones_byte(v: u8) -> u32
     ensures { λ r. ⌜ r ≡ ones (byteBits v) ⌝ }
 {
     let low = ones_four(
@@ -150,12 +150,12 @@ fn ones_byte(v: u8) -> usize
         + low
 }
 
-// The ones of the first 8 * count bits, by bytes.
-fn ones_bytes(s: &[u8], start: usize, count: usize) -> usize
+// The ones of the first 8 * count bits, by bytes. Numbers of 32 bits are added four at a time, where those of 64 are two.
+fn ones_bytes(s: &[u8], start: usize, count: usize) -> u32
     requires { ⌜ Part (now s) start (8 * count) ⌝ }
     ensures { λ r. ⌜ r ≡ ones (range (now (s .entry)) start (8 * count)) ⌝ }
 {
-    let mut n: usize = 0;
+    let mut n: u32 = 0;
     let mut i: usize = 0;
     while i < count {
         n += ones_byte(strings::eight_bits(s, start + 8 * i));
@@ -170,7 +170,7 @@ pub fn ones_of(s: &[u8], start: usize, len: usize) -> usize
     ensures { λ r. ⌜ r ≡ ones (range (now (s .entry)) start len) ⌝ }
 {
     let mut i = 8 * (len / 8);
-    let mut n = ones_bytes(s, start, len / 8);
+    let mut n = ones_bytes(s, start, len / 8) as usize;
     while i < len {
         n += strings::get_bit(s, start + i) as usize;
         i += 1;
