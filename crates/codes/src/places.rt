@@ -1,6 +1,5 @@
 // The place of the bit to put in or take out, found from the weighted sum and the count of ones.
 ghost use mathlib.Core.Path.{_≡_};
-ghost use mathlib.Core.Bool.{cond};
 ghost use mathlib.Core.Option.{some};
 ghost use Prim.Native.Nat.{_+_, _≤_, _<_};
 ghost use Rattle.strings.specs.Bits.{maxBits, range, Part};
@@ -84,24 +83,9 @@ fn one_fall(len: usize, fall: usize) -> usize
     fall
 }
 
-// What was found for a 0 or for a 1, by the bit b. Both are nearly always false, so that they are looked at before the bit, which is
-// hard to foretell.
-fn for_bit(b: bool, zero: bool, one: bool) -> bool
-    ensures { λ r. ⌜ r ≡ cond b one zero ⌝ }
-{
-    if zero {
-        if !b {
-            return true;
-        }
-    }
-    if one {
-        return b;
-    }
-    false
-}
-
 // The first bit that can be taken out so that the syndrome is a; len where there is none. A 0 lowers the sum by the ones behind it, 0 to
-// len - 1; a 1 by its place and the ones behind it, 1 to len.
+// len - 1; a 1 by its place and the ones behind it, 1 to len. Both tests of a fall are nearly always false, so that they stand before the
+// test of the bit, which is hard to foretell.
 fn take_place(s: &[u8], start: usize, len: usize, a: usize) -> usize
     requires { ⌜ Part (now s) start len ⌝ }
     ensures { λ r. ⌜ r ≡ takePlace a (range (now (s .entry)) start len) ⌝ }
@@ -116,8 +100,15 @@ fn take_place(s: &[u8], start: usize, len: usize, a: usize) -> usize
     let mut i: usize = 0;
     while i < len {
         let b = strings::get_bit(s, start + i);
-        if for_bit(b, right == for_zero, i + right == for_one) {
-            return i;
+        if right == for_zero {
+            if !b {
+                return i;
+            }
+        }
+        if i + right == for_one {
+            if b {
+                return i;
+            }
         }
         right -= b as usize;
         i += 1;

@@ -145,7 +145,12 @@ module _ (n x a : ℕ) (h : a < n) where
           whole (yes q) = rw (eq-eqb (zeroFall n x a) 0 q) (eq-eqb f n (omega arith) ∙ sym (eq-eqb 0 (zeroFall n x a) (sym q)))
           whole (no q) = let b = below in rw (ne-eqb (zeroFall n x a) 0 q) (ne-eqb f (zeroFall n x a) (λ z. omega arith) ∙ sym (ne-eqb 0 (zeroFall n x a) (λ z. q (sym z))))
 
--- the test of a turn, by the ones from its bit on
+-- what the tests of bit i show, by the ones from it on: f₀ is the fall for a 0, f₁ that for a 1
+pub record TakeTurn (l : List Bool) (a i right : ℕ) (b : Bool) (f₀ f₁ : ℕ) : Type 0 where
+  pub zero-found : b ≡ false → right ≡ f₀ → syndrome (without i l) ≡ a
+  pub one-found : b ≡ true → i + right ≡ f₁ → syndrome (without i l) ≡ a
+  pub none-found : (b ≡ false → right ≡ f₀ → ⊥) → (b ≡ true → i + right ≡ f₁ → ⊥) → syndrome (without i l) ≡ a → ⊥
+
 module _ (s : List ℕ) (start len a i sum right : ℕ) (b : Bool) (h : i < len) (k : a < len) (e : b ≡ bitAt s (start + i)) (f : sum ≡ weightedSum 1 (range s start len)) (g : right ≡ ones (rest s start len i)) where
   zero-test : b ≡ false → eqb right (zeroFall len sum a) ≡ eqb (syndrome (without i (range s start len))) a
   zero-test p =
@@ -167,13 +172,19 @@ module _ (s : List ℕ) (start len a i sum right : ℕ) (b : Bool) (h : i < len)
       let z = ones-most s start len i in
       one-fall len sum a k (i + right) (omega arith) (omega arith) (omega arith) ∙ ap (λ (u : ℕ). eqb u a) (ap (λ (u : ℕ). u % len) d ∙ w .gives)
 
-  pub take-test : (r : Bool) (f₀ f₁ : ℕ) → f₀ ≡ zeroFall len sum a → f₁ ≡ oneFall len f₀ → r ≡ cond b (eqb (i + right) f₁) (eqb right f₀)
-      → r ≡ eqb (syndrome (without i (range s start len))) a
-  take-test r f₀ f₁ p q t = t ∙ ap₂ (λ (x y : ℕ). cond b (eqb (i + right) y) (eqb right x)) p (q ∙ ap (oneFall len) p) ∙ go b refl
+  pub take-turn : (f₀ f₁ : ℕ) → f₀ ≡ zeroFall len sum a → f₁ ≡ oneFall len f₀ → TakeTurn (range s start len) a i right b f₀ f₁
+  take-turn f₀ f₁ p q = record {
+    zero-found = λ y t. eqb-true (syndrome (without i (range s start len))) a (sym (zero-test y) ∙ eq-eqb right (zeroFall len sum a) (t ∙ p));
+    one-found = λ y t. eqb-true (syndrome (without i (range s start len))) a (sym (one-test y) ∙ eq-eqb (i + right) (oneFall len (zeroFall len sum a)) (t ∙ one));
+    none-found = λ zero-no one-no z. go zero-no one-no z b refl;
+  }
     where
-      go : (y : Bool) → b ≡ y → cond y (eqb (i + right) (oneFall len (zeroFall len sum a))) (eqb right (zeroFall len sum a)) ≡ eqb (syndrome (without i (range s start len))) a
-      go true p = one-test p
-      go false p = zero-test p
+      one : f₁ ≡ oneFall len (zeroFall len sum a)
+      one = q ∙ ap (oneFall len) p
+
+      go : (b ≡ false → right ≡ f₀ → ⊥) → (b ≡ true → i + right ≡ f₁ → ⊥) → syndrome (without i (range s start len)) ≡ a → (y : Bool) → b ≡ y → ⊥
+      go zero-no one-no z false y = zero-no y (eqb-true right (zeroFall len sum a) (zero-test y ∙ eq-eqb (syndrome (without i (range s start len))) a z) ∙ sym p)
+      go zero-no one-no z true y = one-no y (eqb-true (i + right) (oneFall len (zeroFall len sum a)) (one-test y ∙ eq-eqb (syndrome (without i (range s start len))) a z) ∙ sym one)
 
 -- ---- the first place whose bit can be taken out
 module _ (a : ℕ) (l : List Bool) where

@@ -1,16 +1,18 @@
 -- `codes::take_place` meets its contract: the first place among those from i on is the first of all. Assumes nothing.
 use mathlib.Core.Path.{_≡_, refl, sym, ap, _∙_}
-use Prim.Native.Nat.{_-_, _≤_}
+use mathlib.Core.Bool.{true, false}
+use mathlib.Core.Logic.{⊎-elim}
+use Prim.Native.Nat.{_+_, _-_, _≤_}
 use native.Mathlib.Omega.{arith}
-use lib.Dec.{eqb}
 use Rattle.strings.specs.Bits.{range}
+use Rattle.strings.specs.laws.Tests.{true-false}
 use Rattle.strings.specs.laws.RangeLaws.{rest, rest-first, rest-is, range-length}
 use Rattle.codes.specs.Syndrome.{weightedSum, syndrome}
 use Rattle.codes.specs.Repair.{without}
 use Rattle.codes.specs.code.Place.{ones, firstTake, takePlace}
 use Rattle.codes.specs.laws.SyndromeLaws.{ones-next}
-use Rattle.codes.specs.laws.PlaceLaws.{ones-most, take-test, zero-fall-is, first-take-here, first-take-next, first-take-end, take-place-is, take-place-above}
-use borrow.Author.Tests.{eqb-true, eqb-false}
+use Rattle.codes.specs.laws.PlaceLaws.{ones-most, TakeTurn, take-turn, zero-fall-is, first-take-here, first-take-next, first-take-end, take-place-is, take-place-above}
+use borrow.Author.Tests.{not-true, not-false}
 use borrow.Author.Needs.{needs}
 use Rattle.codes.proofs.places.take_place.Statement.{statement}
 use Rattle.codes.proofs.places.take_place.Tie as tie
@@ -49,32 +51,41 @@ add-get-bit c = search needs
 get-bit-requires : tie.Need-get-bit-requires Inv-loop μ-loop
 get-bit-requires c κs = search needs
 
-add-for-bit : tie.Need-add-for-bit Inv-loop μ-loop
-add-for-bit c =
-    let s = c .before .before .before .before .before .before .before .before .before in
-    let m = ones-most (s .args .s .now) (s .args .start) (s .args .len) (c .before .before .loop .i) in omega arith
-
-for-bit-requires : tie.Need-for-bit-requires Inv-loop μ-loop
-for-bit-requires c κs = search needs
-
--- what a turn's test found
-found : (c : tie.After-for-bit Inv-loop μ-loop)
-    → let args = c .before .before .before .before .before .before .before .before .before .before .args in
-    c .for-bit .result ≡ eqb (syndrome (without (c .before .before .before .loop .i) (range (args .s .now) (args .start) (args .len)))) (args .a)
-found c =
-    let args = c .before .before .before .before .before .before .before .before .before .before .args in
-    let loop = c .before .before .before .loop in
+-- what a turn's tests show
+turn : (c : tie.After-get-bit Inv-loop μ-loop)
+    → let args = c .before .before .before .before .before .before .before .before .before .args in
+    TakeTurn (range (args .s .now) (args .start) (args .len)) (args .a) (c .before .before .loop .i) (c .before .before .loop .right) (c .get-bit .result) (c .before .before .before .before .before .subtract-modulo .result) (c .before .before .before .before .one-fall .result)
+turn c =
+    let args = c .before .before .before .before .before .before .before .before .before .args in
+    let loop = c .before .before .loop in
     let sum = weightedSum 1 (range (args .s .now) (args .start) (args .len)) in
-    let fall = c .before .before .before .before .before .before .subtract-modulo in
-    let below = c .before .before .before .before .before .before .before .sum-modulo in
-    let for-one = c .before .before .before .before .before .one-fall in
-    take-test (args .s .now) (args .start) (args .len) (args .a) (loop .i) sum (loop .right) (c .before .get-bit .result) (c .before .before .loop-test .taken) (c .before .before .before .before .before .before .before .before .if1 .left) (c .before .get-bit .ensures) refl (loop .inv .1) (c .for-bit .result) (fall .result) (for-one .result) (zero-fall-is (args .len) sum (args .a) (below .result) (fall .result) (below .ensures) (fall .ensures)) (for-one .ensures) (c .for-bit .ensures)
+    let fall = c .before .before .before .before .before .subtract-modulo in
+    let below = c .before .before .before .before .before .before .sum-modulo in
+    let for-one = c .before .before .before .before .one-fall in
+    take-turn (args .s .now) (args .start) (args .len) (args .a) (loop .i) sum (loop .right) (c .get-bit .result) (c .before .loop-test .taken) (c .before .before .before .before .before .before .before .if1 .left) (c .get-bit .ensures) refl (loop .inv .1) (fall .result) (for-one .result) (zero-fall-is (args .len) sum (args .a) (below .result) (fall .result) (below .ensures) (fall .ensures)) (for-one .ensures)
+
+-- the place of this turn is the first
+here : (c : tie.After-get-bit Inv-loop μ-loop)
+    → let args = c .before .before .before .before .before .before .before .before .before .args in
+    let bits = range (args .s .now) (args .start) (args .len) in
+    syndrome (without (c .before .before .loop .i) bits) ≡ args .a → c .before .before .loop .i ≡ takePlace (args .a) bits
+here c e =
+    let args = c .before .before .before .before .before .before .before .before .before .args in
+    let loop = c .before .before .loop in
+    sym (first-take-here (args .a) (range (args .s .now) (args .start) (args .len)) (args .len) (loop .i) (c .before .loop-test .taken) e) ∙ loop .inv .2
 
 returns-2 : tie.Need-returns-2 Inv-loop μ-loop
-returns-2 c = let args = c .before .before .before .before .before .before .before .before .before .before .before .args in
-    let loop = c .before .before .before .before .loop in
-    let bits = range (args .s .now) (args .start) (args .len) in
-    sym (first-take-here (args .a) bits (args .len) (loop .i) (c .before .before .before .loop-test .taken) (eqb-true (syndrome (without (loop .i) bits)) (args .a) (sym (found (c .before)) ∙ c .if2 .taken))) ∙ loop .inv .2
+returns-2 c =
+    here (c .before .before) (turn (c .before .before) .zero-found (not-true _ (c .if3 .taken)) (c .before .if2 .taken))
+
+add-if4 : tie.Need-add-if4 Inv-loop μ-loop
+add-if4 c =
+    let s = c .before .before .before .before .before .before .before .before .before .before in
+    let m = ones-most (s .args .s .now) (s .args .start) (s .args .len) (c .before .before .before .loop .i) in omega arith
+
+returns-3 : tie.Need-returns-3 Inv-loop μ-loop
+returns-3 c =
+    here (c .before .before .before) (turn (c .before .before .before) .one-found (c .if5 .taken) (c .before .if4 .taken))
 
 cast-right : tie.Need-cast-right Inv-loop μ-loop
 cast-right c = search needs
@@ -96,14 +107,18 @@ loop-again c = let args = c .before .before .before .before .before .before .bef
     let loop = c .before .before .before .before .loop in
     let b = c .before .before .get-bit .result in
     let bits = range (args .s .now) (args .start) (args .len) in
-    let o = ones-next _ _ b (rest-is (args .s .now) (args .start) (args .len) (loop .i) b b (c .before .before .before .loop-test .taken) (c .before .before .get-bit .ensures) refl) in (
+    let o = ones-next _ _ b (rest-is (args .s .now) (args .start) (args .len) (loop .i) b b (c .before .before .before .loop-test .taken) (c .before .before .get-bit .ensures) refl) in
+    let zero-no : b ≡ false → loop .right ≡ c .before .before .before .before .before .before .before .subtract-modulo .result → ⊥ =
+    λ y t. ⊎-elim (λ w. true-false (sym (not-false _ (w .1 .left)) ∙ y)) (λ w. w .left t) (c .before .if2 .came) in
+    let one-no : b ≡ true → loop .i + loop .right ≡ c .before .before .before .before .before .before .one-fall .result → ⊥ =
+    λ y t. ⊎-elim (λ w. true-false (sym y ∙ w .1 .left)) (λ w. w .left t) (c .if4 .came) in (
       omega arith,
       omega arith,
-      sym (first-take-next (args .a) bits (args .len) (loop .i) (c .before .before .before .loop-test .taken) (eqb-false (syndrome (without (loop .i) bits)) (args .a) (sym (found (c .before)) ∙ c .if2 .left))) ∙ loop .inv .2,
+      sym (first-take-next (args .a) bits (args .len) (loop .i) (c .before .before .before .loop-test .taken) (turn (c .before .before) .none-found zero-no one-no)) ∙ loop .inv .2,
     )
 
-returns-3 : tie.Need-returns-3 Inv-loop μ-loop
-returns-3 c =
+returns-4 : tie.Need-returns-4 Inv-loop μ-loop
+returns-4 c =
     let s = c .before .before .before .before .before .before .before .before in
     sym (first-take-end (s .args .a) (range (s .args .s .now) (s .args .start) (s .args .len)) (s .args .len) (c .before .loop .i) (c .loop-test .left)) ∙ c .before .loop .inv .2
 
@@ -121,12 +136,12 @@ take-place-spec =
     loop-holds
     add-get-bit
     get-bit-requires
-    add-for-bit
-    for-bit-requires
     returns-2
+    add-if4
+    returns-3
     cast-right
     sub-right
     add-i
     loop-less
     loop-again
-    returns-3)
+    returns-4)
