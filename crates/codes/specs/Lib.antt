@@ -1,9 +1,12 @@
--- What a reader must believe of codes and hash: Syndrome, Repair, Columns, Hash, Trials, Entries. Place, Sums, Edits, Weaving, HashForms and Strides are the code's way to them. The rest is laws.
+-- What a reader must believe of codes and hash: Syndrome, Repair, Columns, Hash, Trials, Entries, Counting; CountingTheorem names the theorems of 02's CR 11. Place, Sums, Edits, Weaving, HashForms and Strides are the code's way to them. The rest is laws.
 pub mod Syndrome
 pub mod Repair
 pub mod Columns
 pub mod Hash
 pub mod Trials
 pub mod Entries
+pub mod Counting
+pub mod CountingTheorem
 pub mod code
 pub mod laws
+pub mod examples

@@ -13,3 +13,5 @@ pub mod ColumnEditLaws
 pub mod TrialLaws
 pub mod EntryLaws
 pub mod Collision
+pub mod ListCounting
+pub mod CountingLaws
