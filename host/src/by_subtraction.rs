@@ -2,29 +2,30 @@
 //! the benchmark: eight running sums, one for each bit of a byte, each kept below the modulus after
 //! each bit by compare and subtract. There is no division or remainder but by 2 and 8.
 //!
-//! The bytes are taken to be a string of `bits` bits.
+//! The bits are those of a range, `bits` of them from bit `start` on, as the library takes them: the
+//! piece of a run lies anywhere in a string.
 
 /// The syndrome.
 #[inline(never)]
-pub fn syndrome(bytes: &[u8], bits: usize) -> u32 {
-    sum_modulo(bytes, bits, bits + 1) as u32
+pub fn syndrome(bytes: &[u8], start: usize, bits: usize) -> u32 {
+    sum_modulo(bytes, start, bits, bits + 1) as u32
 }
 
 /// Puts a bit in where `n` is `bits + 1`, takes one out where it is `bits - 1`: the first bytes of
 /// `out` become the string of `n` bits with syndrome `a`. False, with nothing written, if there is
 /// none.
 #[inline(never)]
-pub fn repair(bytes: &[u8], bits: usize, n: usize, a: usize, out: &mut [u8]) -> bool {
+pub fn repair(bytes: &[u8], start: usize, bits: usize, n: usize, a: usize, out: &mut [u8]) -> bool {
     let edit = if n == bits + 1 {
-        put_in(bytes, bits, a)
+        put_in(bytes, start, bits, a)
     } else {
-        take_out(bytes, bits, a)
+        take_out(bytes, start, bits, a)
     };
     let Some(edit) = edit else {
         return false;
     };
     out[..n.div_ceil(8)].fill(0);
-    write_edited(out, bytes, bits, edit);
+    write_edited(out, bytes, start, bits, edit);
     true
 }
 
@@ -54,12 +55,13 @@ fn sum_bit(bit: bool, place: u32, sum: u32, m: u32) -> u32 {
     add_modulo(sum, place * bit as u32, m)
 }
 
-/// The sum of the places of the ones of whole bytes: bit k of each byte goes to sum k. With an
-/// iterator over the sums it takes 1.8 times as long.
+/// The sum of the places of the ones of `count` bytes from bit `start` on: bit k of each byte goes to
+/// sum k. With an iterator over the sums it takes 1.8 times as long.
 #[allow(clippy::needless_range_loop)]
-fn sum_bytes(bytes: &[u8], m: u32) -> u32 {
+fn sum_bytes(bytes: &[u8], start: usize, count: usize, m: u32) -> u32 {
     let mut sums = [0; 8];
-    for (i, &byte) in bytes.iter().enumerate() {
+    for i in 0..count {
+        let byte = eight_bits(bytes, start + 8 * i);
         for k in 0..8 {
             let bit = (byte >> (7 - k)) % 2 == 1;
             sums[k] = sum_bit(bit, (8 * i + k + 1) as u32, sums[k], m);
@@ -69,11 +71,11 @@ fn sum_bytes(bytes: &[u8], m: u32) -> u32 {
 }
 
 /// The sum of the places of the ones modulo m, the first place being 1.
-fn sum_modulo(bytes: &[u8], bits: usize, m: usize) -> usize {
+fn sum_modulo(bytes: &[u8], start: usize, bits: usize, m: usize) -> usize {
     let (count, m) = (bits / 8, m as u32);
-    let mut sum = sum_bytes(&bytes[..count], m);
+    let mut sum = sum_bytes(bytes, start, count, m);
     for i in 8 * count..bits {
-        sum = sum_bit(get_bit(bytes, i), (i + 1) as u32, sum, m);
+        sum = sum_bit(get_bit(bytes, start + i), (i + 1) as u32, sum, m);
     }
     sum as usize
 }
@@ -85,11 +87,14 @@ fn ones_byte(byte: u8) -> u32 {
     bit(7) + bit(6) + (bit(5) + bit(4)) + low
 }
 
-fn ones(bytes: &[u8], bits: usize) -> usize {
+fn ones(bytes: &[u8], start: usize, bits: usize) -> usize {
     let count = bits / 8;
-    let mut ones: u32 = bytes[..count].iter().map(|&byte| ones_byte(byte)).sum();
+    let mut ones = 0;
+    for i in 0..count {
+        ones += ones_byte(eight_bits(bytes, start + 8 * i));
+    }
     for i in 8 * count..bits {
-        ones += get_bit(bytes, i) as u32;
+        ones += get_bit(bytes, start + i) as u32;
     }
     ones as usize
 }
@@ -103,55 +108,55 @@ enum Edit {
 }
 
 /// The first place with at most r ones from there on, where there are w ones in all.
-fn zero_place(bytes: &[u8], bits: usize, w: usize, r: usize) -> usize {
+fn zero_place(bytes: &[u8], start: usize, bits: usize, w: usize, r: usize) -> usize {
     let mut right = w;
     for i in 0..bits {
         if right <= r {
             return i;
         }
-        right -= get_bit(bytes, i) as usize;
+        right -= get_bit(bytes, start + i) as usize;
     }
     bits
 }
 
 /// The first place with z zeros before it.
-fn one_place(bytes: &[u8], bits: usize, z: usize) -> usize {
+fn one_place(bytes: &[u8], start: usize, bits: usize, z: usize) -> usize {
     let mut left = z;
     for i in 0..bits {
         if left == 0 {
             return i;
         }
-        left -= !get_bit(bytes, i) as usize;
+        left -= !get_bit(bytes, start + i) as usize;
     }
     bits
 }
 
 /// The bit put in that gives the syndrome a; one for each a up to bits + 1.
-fn put_in(bytes: &[u8], bits: usize, a: usize) -> Option<Edit> {
+fn put_in(bytes: &[u8], start: usize, bits: usize, a: usize) -> Option<Edit> {
     let m = bits + 2;
     if a >= m {
         return None;
     }
-    let w = ones(bytes, bits);
-    let raise = subtract_modulo(a, sum_modulo(bytes, bits, m), m);
+    let w = ones(bytes, start, bits);
+    let raise = subtract_modulo(a, sum_modulo(bytes, start, bits, m), m);
     Some(if raise <= w {
-        Edit::PutIn(zero_place(bytes, bits, w, raise), false)
+        Edit::PutIn(zero_place(bytes, start, bits, w, raise), false)
     } else {
-        Edit::PutIn(one_place(bytes, bits, raise - w - 1), true)
+        Edit::PutIn(one_place(bytes, start, bits, raise - w - 1), true)
     })
 }
 
 /// The first bit that can be taken out so that the syndrome is a. A 0 lowers the sum by the ones
 /// behind it, 0 to bits - 1; a 1 by its place and the ones behind it, 1 to bits.
-fn take_out(bytes: &[u8], bits: usize, a: usize) -> Option<Edit> {
+fn take_out(bytes: &[u8], start: usize, bits: usize, a: usize) -> Option<Edit> {
     if a >= bits {
         return None;
     }
-    let zero_fall = subtract_modulo(sum_modulo(bytes, bits, bits), a, bits);
+    let zero_fall = subtract_modulo(sum_modulo(bytes, start, bits, bits), a, bits);
     let one_fall = if zero_fall == 0 { bits } else { zero_fall };
-    let mut right = ones(bytes, bits);
+    let mut right = ones(bytes, start, bits);
     for i in 0..bits {
-        let bit = get_bit(bytes, i);
+        let bit = get_bit(bytes, start + i);
         // The falls are looked at before the bit, which is hard to foretell.
         if (right == zero_fall && !bit) || (i + right == one_fall && bit) {
             return Some(Edit::TakeOut(i));
@@ -167,6 +172,14 @@ fn get_bit(bytes: &[u8], i: usize) -> bool {
     (bytes[i / 8] >> (7 - i % 8)) % 2 == 1
 }
 
+/// The eight bits from bit i on.
+fn eight_bits(bytes: &[u8], i: usize) -> u8 {
+    match i % 8 {
+        0 => bytes[i / 8],
+        shift => bytes[i / 8] << shift ^ bytes[i / 8 + 1] >> (8 - shift),
+    }
+}
+
 /// No branch on the bit.
 fn set_bit(bytes: &mut [u8], i: usize, bit: bool) {
     let turned = get_bit(bytes, i) != bit;
@@ -174,16 +187,16 @@ fn set_bit(bytes: &mut [u8], i: usize, bit: bool) {
 }
 
 /// Writes the edited bits.
-fn write_edited(to: &mut [u8], bytes: &[u8], bits: usize, edit: Edit) {
+fn write_edited(to: &mut [u8], bytes: &[u8], start: usize, bits: usize, edit: Edit) {
     match edit {
         Edit::PutIn(i, bit) => {
-            copy_bits(bytes, 0, i, to, 0);
+            copy_bits(bytes, start, i, to, 0);
             set_bit(to, i, bit);
-            copy_bits(bytes, i, bits - i, to, i + 1);
+            copy_bits(bytes, start + i, bits - i, to, i + 1);
         }
         Edit::TakeOut(i) => {
-            copy_bits(bytes, 0, i, to, 0);
-            copy_bits(bytes, i + 1, bits - i - 1, to, i);
+            copy_bits(bytes, start, i, to, 0);
+            copy_bits(bytes, start + i + 1, bits - i - 1, to, i);
         }
     }
 }

@@ -175,7 +175,7 @@ fn neighbours(bits: usize) -> impl Iterator<Item = usize> {
 
 /// The benchmark's syndrome in the library's way against the model.
 fn check_syndrome(s: &[u8], bits: usize) {
-    let got = by_subtraction::syndrome(s, bits) as u64;
+    let got = by_subtraction::syndrome(s, 0, bits) as u64;
     assert_eq!(unpack(Model::syndrome(s, bits)), Ok(got), "{s:02x?}");
 }
 
@@ -183,7 +183,7 @@ fn check_syndrome(s: &[u8], bits: usize) {
 fn check_repair(random: &mut Random, s: &[u8], bits: usize, n: usize, a: usize) {
     let mut out = random.bytes(n.div_ceil(8) + 1);
     let mut model = out.clone();
-    let got = by_subtraction::repair(s, bits, n, a, &mut out) as u64;
+    let got = by_subtraction::repair(s, 0, bits, n, a, &mut out) as u64;
     let want = unpack(Model::repair(s, bits, n, a, &mut model));
     assert_eq!(want, Ok(got), "{bits} bits, n {n}, a {a}");
     assert!(out == model, "{bits} bits, n {n}, a {a}");
