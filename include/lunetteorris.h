@@ -7,9 +7,9 @@
  * Strings. Each has 0 to LO_MAX_BITS bits in exactly ceil(bits/8) bytes, first bit in the most
  * significant place, spare bits zero.
  *
- * Slices. Each is a pointer, then its length in bytes. (NULL, 0) is an empty slice. No alignment
- * is needed. A written slice overlaps no other. The library keeps no pointer after it returned and
- * allocates nothing.
+ * Slices. Each is a pointer, then its length in bytes; lo_list's out is an array of uint32_t, and
+ * its length counts entries. (NULL, 0) is an empty slice. Bytes need no alignment. A written slice
+ * overlaps no other. The library keeps no pointer after it returned and allocates nothing.
  *
  * States. The buffer has at least LO_HOLDER_BYTES or LO_REBUILDER_BYTES bytes. Each function reads
  * and writes the first LO_HOLDER_BYTES or LO_REBUILDER_BYTES of them and leaves later bytes as they
@@ -21,8 +21,8 @@
  * slices that are only read (X, Y, messages) may be lent to several of them.
  *
  * Results. Each is value * 256 + refusal: LO_REFUSAL(r) is 0 where the call was not turned down,
- * and LO_VALUE(r) is then the answer. Otherwise LO_REFUSAL(r) is 1 to 10, and the call changed
- * nothing. Where several refusals apply, the order given with a function decides.
+ * and LO_VALUE(r) is then the answer. Otherwise LO_REFUSAL(r) is 1 to 10 or 14, and the call
+ * changed nothing. Where several refusals apply, the order given with a function decides.
  *
  * Messages. The host carries them as they are. A question is open (kind 0: version, h, key), hash
  * (1: start, length), syndrome (2: start, length), bits (3: start, length) or burst (4: start,
@@ -55,9 +55,11 @@ extern "C" {
 #define LO_OUT_OF_RANGE 8     /* a value is outside its range */
 #define LO_BUFFER_TOO_SHORT 9 /* a lent buffer or sheet is too short */
 #define LO_BAD_BURST 10       /* a question of kind 4 with a B outside 2 to 32 */
+#define LO_LIST_TOO_SHORT 14  /* a list buffer has fewer entries than there are strings */
 
 /* Sizes */
 #define LO_MAX_BITS 65536
+#define LO_MAX_LIST_BITS 20    /* the most bits of the strings that lo_list lists */
 #define LO_HOLDER_BYTES 20     /* a holder's state */
 #define LO_REBUILDER_BYTES 564 /* a rebuilder's state */
 #define LO_ROW_BYTES 12        /* a row of the sheet */
@@ -130,6 +132,12 @@ uint64_t lo_hash(const uint8_t *s, size_t s_len, size_t bits, uint32_t h, uint32
  * ceil(n/8)). */
 uint64_t lo_repair(const uint8_t *s, size_t s_len, size_t bits, size_t n, size_t a,
                    uint8_t *out, size_t out_len);
+
+/* All strings of n bits with syndrome a, each once, as numbers with the first bit highest, rising.
+ * Value: their count; they are the first entries of out, later entries are as they were. out_len
+ * counts entries; 2^n are always enough. The string of no bits is 0.
+ * Refusals 8 (n above LO_MAX_LIST_BITS, a above n); 14 (fewer entries than there are strings). */
+uint64_t lo_list(size_t n, size_t a, uint32_t *out, size_t out_len);
 
 /* Where the anchor a of m bits, at offset s of a piece of p bits, is placed in the piece's copy,
  * the q bits of y from start on: at r, counted from start, 0 to q - m, where the copy's m bits

@@ -15,6 +15,7 @@ extern "C" {
         out: *mut u8,
         out_len: usize,
     ) -> u64;
+    fn lo_list(n: usize, a: usize, out: *mut u32, out_len: usize) -> u64;
     fn lo_anchor(
         y: *const u8,
         y_len: usize,
@@ -89,6 +90,10 @@ impl Ends for Library {
 
     fn repair(s: &[u8], bits: usize, n: usize, a: usize, out: &mut [u8]) -> u64 {
         unsafe { lo_repair(s.as_ptr(), s.len(), bits, n, a, out.as_mut_ptr(), out.len()) }
+    }
+
+    fn list(n: usize, a: usize, out: &mut [u32]) -> u64 {
+        unsafe { lo_list(n, a, out.as_mut_ptr(), out.len()) }
     }
 
     fn anchor(

@@ -38,6 +38,7 @@ mod bit_string;
 #[allow(unsafe_code)]
 mod ffi;
 pub mod layout;
+mod listing;
 pub mod model;
 mod refusal;
 mod saved;
@@ -48,6 +49,7 @@ use std::ops::Range;
 pub use bit_string::BitString;
 #[cfg(not(feature = "model-only"))]
 pub use ffi::Library;
+pub use listing::{strings_of_syndrome, SyndromeStrings};
 #[cfg(feature = "model-only")]
 pub use model::Model as Library;
 pub use refusal::Refusal;
@@ -56,6 +58,8 @@ pub use synchroniser::{Holder, How, Rebuilder, Row, Settings, Sheet};
 
 /// The most bits that a string has.
 pub const MAX_BITS: usize = 65_536;
+/// The most bits of the strings that are listed by syndrome.
+pub const MAX_LIST_BITS: usize = 20;
 /// Bytes of a holder's state; its buffer may be longer.
 pub const HOLDER_BYTES: usize = 20;
 /// Bytes of a rebuilder's state; its buffer may be longer.
@@ -98,6 +102,10 @@ pub trait Ends {
     /// Writes to `out` the `n`-bit string with syndrome `a` that is one bit longer or shorter
     /// than `s`: 1; or finds that there is none: 0, nothing written. Refusals 2, 8, 9.
     fn repair(s: &[u8], bits: usize, n: usize, a: usize, out: &mut [u8]) -> u64;
+
+    /// Writes to `out` all strings of `n` bits with syndrome `a`, each once, as numbers with the
+    /// first bit highest, rising: their count. Later entries stay. Refusals 8, 14.
+    fn list(n: usize, a: usize, out: &mut [u32]) -> u64;
 
     /// Where the anchor `a` of `m` bits, at offset `s` of a piece of `p` bits, is placed in the
     /// `q` bits of `y` from `start` on: place + 1, or 0 for no place. Refusals 1, 2, 8.
@@ -164,7 +172,7 @@ pub fn pack(result: Result<u64, Refusal>) -> u64 {
 pub fn unpack(packed: u64) -> Result<u64, Refusal> {
     match (packed % 256) as u8 {
         0 => Ok(packed / 256),
-        number => Err(Refusal::from_number(number).expect("refusals are 1 to 10")),
+        number => Err(Refusal::from_number(number).expect("refusals are 1 to 10 or 14")),
     }
 }
 

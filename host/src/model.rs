@@ -1,13 +1,14 @@
-//! The synchroniser written a second time, in Rust: from the text of document 01 and of 02's CR 1,
-//! with the state's layout and soundness as docs/ gives them, and from nothing of the library's
-//! source. The tests compare the two byte for byte; the benchmark takes it as the baseline.
+//! The synchroniser written a second time, in Rust: from the text of document 01 and of 02's CR 1
+//! and CR 12, with the state's layout and soundness as docs/ gives them, and from nothing of the
+//! library's source. The tests compare the two byte for byte; the benchmark takes it as the
+//! baseline.
 //!
 //! Sections in 01's order: strings, codes and hash, messages, holder, rebuilder. Each call checks
 //! everything that can turn it down before it writes.
 
 use crate::{
-    pack, sheet_rows, Ends, Refusal, HOLDER_BYTES, MAX_BITS, QUESTION_BYTES, REBUILDER_BYTES,
-    ROW_BYTES,
+    pack, sheet_rows, Ends, Refusal, HOLDER_BYTES, MAX_BITS, MAX_LIST_BITS, QUESTION_BYTES,
+    REBUILDER_BYTES, ROW_BYTES,
 };
 
 /// The most answers that a holder gives.
@@ -165,6 +166,16 @@ fn place_after(b: impl Source, bit: bool, count: usize) -> usize {
 
 fn syndrome(b: impl Source) -> usize {
     weighted_sum(b) % (b.len() + 1)
+}
+
+/// The n-bit strings of syndrome `a` as numbers, rising: each number below 2^n is tried. Bit i,
+/// from 1, is the digit of 2^(n - i).
+fn list(n: usize, a: usize) -> Vec<u32> {
+    let has_syndrome = |number: &u32| {
+        let sum: usize = (1..=n).filter(|i| number >> (n - i) & 1 == 1).sum();
+        sum % (n + 1) == a
+    };
+    (0..1 << n).filter(has_syndrome).collect()
 }
 
 /// One bit put in before a place, or the bit at a place taken out.
@@ -1317,6 +1328,18 @@ impl Ends for Model {
         }
         write_edited(out, 0, b, edit);
         pack(Ok(1))
+    }
+
+    fn list(n: usize, a: usize, out: &mut [u32]) -> u64 {
+        if n > MAX_LIST_BITS || a > n {
+            return pack(Err(Refusal::OutOfRange));
+        }
+        let list = list(n, a);
+        let Some(front) = out.get_mut(..list.len()) else {
+            return pack(Err(Refusal::ListTooShort));
+        };
+        front.copy_from_slice(&list);
+        pack(Ok(list.len() as u64))
     }
 
     fn anchor(

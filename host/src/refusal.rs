@@ -27,11 +27,13 @@ pub enum Refusal {
     BufferTooShort = 9,
     /// 10: the number of columns in a burst question is not 2 to 32.
     BadBurst = 10,
+    /// 14: a list buffer has fewer entries than there are strings.
+    ListTooShort = 14,
 }
 
 impl Refusal {
     /// All refusals, in the order of their numbers.
-    pub const ALL: [Refusal; 10] = [
+    pub const ALL: [Refusal; 11] = [
         Refusal::BadSetting,
         Refusal::BadString,
         Refusal::OutOfTurn,
@@ -42,9 +44,10 @@ impl Refusal {
         Refusal::OutOfRange,
         Refusal::BufferTooShort,
         Refusal::BadBurst,
+        Refusal::ListTooShort,
     ];
 
-    /// The refusal's number, 1 to 10.
+    /// The refusal's number, 1 to 10 or 14.
     pub const fn number(self) -> u8 {
         self as u8
     }
@@ -74,6 +77,7 @@ impl fmt::Display for Refusal {
             Refusal::OutOfRange => "a value is outside its range",
             Refusal::BufferTooShort => "a buffer or the sheet is too short",
             Refusal::BadBurst => "the number of columns in a burst question is not 2 to 32",
+            Refusal::ListTooShort => "the list buffer has fewer entries than there are strings",
         };
         write!(f, "refusal {}: {reason}", self.number())
     }

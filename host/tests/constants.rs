@@ -12,7 +12,7 @@ use common::{decoded, field, message, piece};
 use lunetteorris::layout::*;
 use lunetteorris::{
     pack, sheet_rows, unpack, Ends, How, Library, Refusal, Settings, HOLDER_BYTES, MAX_BITS,
-    QUESTION_BYTES, REBUILDER_BYTES, REPLY_BYTES, ROW_BYTES,
+    MAX_LIST_BITS, QUESTION_BYTES, REBUILDER_BYTES, REPLY_BYTES, ROW_BYTES,
 };
 
 /// The wrapper's constants under the header's names.
@@ -54,7 +54,7 @@ fn house() -> [(&'static str, u32); 5] {
 /// Each macro of the header that has no parameter, with the wrapper's value.
 fn of_the_wrapper() -> BTreeMap<String, u64> {
     let sizes = constants![
-        MAX_BITS HOLDER_BYTES REBUILDER_BYTES ROW_BYTES QUESTION_BYTES REPLY_BYTES
+        MAX_BITS MAX_LIST_BITS HOLDER_BYTES REBUILDER_BYTES ROW_BYTES QUESTION_BYTES REPLY_BYTES
     ];
     let offsets = constants![
         HOLDER_OPENED HOLDER_BITS HOLDER_H HOLDER_KEY HOLDER_ANSWERS
@@ -171,7 +171,7 @@ fn house_settings() {
     }
 }
 
-/// Names and numbers of the refusals and of how, and the longest string.
+/// Names and numbers of the refusals and of how, the longest string and the longest in a list.
 #[test]
 fn rattle_source() {
     let strings = source("strings/src/lib.rt");
@@ -181,6 +181,9 @@ fn rattle_source() {
         let number = number_behind(&strings, &format!("Refusal::{refusal:?} =>"));
         assert_eq!(number, refusal.number() as u64, "{refusal:?}");
     }
+    let lists = source("codes/src/lists.rt");
+    let most = number_behind(&lists, "const MAX_LIST_BITS: usize =");
+    assert_eq!(most, MAX_LIST_BITS as u64);
     let steps = source("ends/src/steps.rt");
     for how in How::ALL {
         let number = number_behind(&steps, &format!("How::By{how:?} =>"));
@@ -199,14 +202,14 @@ fn started(m: u32, y: &[u8], bits: usize) -> Vec<u8> {
     state
 }
 
-/// A buffer of so many bytes is taken, and one byte less is refused.
+/// A buffer of so many bytes, or entries of a list, is taken, and one less is refused.
 fn least(needed: usize, refusal: Refusal, call: impl Fn(usize) -> u64) {
     let taken = unpack(call(needed));
-    assert!(taken.is_ok(), "{taken:?} with {needed} bytes");
+    assert!(taken.is_ok(), "{taken:?} with a length of {needed}");
     let Some(fewer) = needed.checked_sub(1) else {
         return;
     };
-    assert_eq!(unpack(call(fewer)), Err(refusal), "{fewer} bytes");
+    assert_eq!(unpack(call(fewer)), Err(refusal), "a length of {fewer}");
 }
 
 #[test]
@@ -260,6 +263,15 @@ fn sizes() {
             &mut reply,
         )
     });
+
+    // The longest strings of a list, and its entries: of 3 bits, 000 and 101 have syndrome 0.
+    let listed = |n: usize, entries: usize| Library::list(n, 0, &mut vec![0; entries]);
+    assert!(unpack(listed(MAX_LIST_BITS, 1 << MAX_LIST_BITS)).is_ok());
+    assert_eq!(
+        unpack(listed(MAX_LIST_BITS + 1, 1 << MAX_LIST_BITS)),
+        Err(Refusal::OutOfRange)
+    );
+    least(2, Refusal::ListTooShort, |entries| listed(3, entries));
 
     // String, sheet, question and state of a rebuilder's call.
     for (n, m) in [(0, 8), (1, 8), (7, 8), (8, 8), (129, 64), (MAX_BITS, 9)] {
@@ -331,8 +343,9 @@ fn refusals() {
     let mut ask = |message: &[u8]| Library::holder_answer(&mut holder, &y, 3, message, &mut [0; 2]);
     assert_eq!(unpack(ask(&[0, 1, 8, 1])), Ok(2));
     let burst = ask(&[4, 0, 3, 1]);
+    let list = Library::list(0, 0, &mut []);
     let got = [
-        settings, string, turn, truncated, number, kind, trailing, range, too_short, burst,
+        settings, string, turn, truncated, number, kind, trailing, range, too_short, burst, list,
     ];
     assert_eq!(got, Refusal::ALL.map(|refusal| refusal.number() as u64));
 }

@@ -21,6 +21,7 @@ static void empty_slices(void) {
     static const uint8_t one[] = {0x80}, open[] = {0, 1, 8, 1}, size_0[] = {0, 0};
     static const uint8_t burst_1[] = {4, 0, 1, 1}, burst_2[] = {4, 0, 1, 2};
     uint8_t out[1], holder[LO_HOLDER_BYTES], rebuilder[LO_REBUILDER_BYTES];
+    uint32_t list[1];
     uint8_t question[LO_QUESTION_BYTES], reply[2], sheet[LO_SHEET_BYTES(0, 8)];
 
     GIVES(lo_syndrome(NULL, 0, 0), 0);
@@ -28,6 +29,9 @@ static void empty_slices(void) {
     GIVES(lo_repair(NULL, 0, 0, 1, 1, out, sizeof out), 1);
     GIVES(lo_repair(one, 1, 1, 0, 0, NULL, 0), 1);
     REFUSES(lo_repair(one, 1, 1, 2, 0, NULL, 0), LO_BUFFER_TOO_SHORT);
+    REFUSES(lo_list(LO_MAX_LIST_BITS + 1, 0, NULL, 0), LO_OUT_OF_RANGE);
+    REFUSES(lo_list(0, 0, NULL, 0), LO_LIST_TOO_SHORT);
+    GIVES(lo_list(0, 0, list, 1), 1);
     GIVES(lo_anchor(NULL, 0, 0, 0, 0, 8, 0, 8, 1, one, 1), 0);
 
     REFUSES(lo_holder_fresh(NULL, 0), LO_BUFFER_TOO_SHORT);

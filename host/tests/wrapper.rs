@@ -24,17 +24,20 @@ fn synchronised(settings: Settings, x: &BitString, y: &BitString) -> Rebuilder {
 
 #[test]
 fn refusals() {
-    for (i, refusal) in Refusal::ALL.into_iter().enumerate() {
-        assert_eq!(refusal.number() as usize, i + 1);
-        assert_eq!(Refusal::from_number(refusal.number()), Some(refusal));
+    let numbers = Refusal::ALL.map(Refusal::number);
+    assert_eq!(numbers, [1, 2, 3, 4, 5, 6, 7, 8, 9, 10, 14]);
+    for refusal in Refusal::ALL {
+        let number = refusal.number();
+        assert_eq!(Refusal::from_number(number), Some(refusal));
         assert_eq!(unpack(pack(Err(refusal))), Err(refusal));
         assert!(refusal
             .to_string()
-            .starts_with(&format!("refusal {}: ", i + 1)));
+            .starts_with(&format!("refusal {number}: ")));
         let _: &dyn std::error::Error = &refusal;
     }
-    assert_eq!(Refusal::from_number(0), None);
-    assert_eq!(Refusal::from_number(11), None);
+    for number in (0..=u8::MAX).filter(|number| !numbers.contains(number)) {
+        assert_eq!(Refusal::from_number(number), None);
+    }
     assert_eq!(unpack(pack(Ok(65_536))), Ok(65_536));
 }
 

@@ -1,5 +1,5 @@
-// The C interface: what a host calls, on numbers and byte slices. include/lunetteorris.h declares it, docs/LAYOUT.md has the layouts.
-// A result is value * 256 + refusal (specs/Packing.antt).
+// The C interface: what a host calls, on numbers and byte slices, and for a list on a slice of 32-bit numbers. include/lunetteorris.h declares
+// it, docs/LAYOUT.md has the layouts. A result is value * 256 + refusal (specs/Packing.antt).
 // A state stands in the first bytes of its slice, which may have more: those are neither read nor written. Bytes that no state has get 3
 // in the calls; too few for a state get 9 in the two functions that make one.
 ghost use mathlib.Core.Path.{_≡_};
@@ -7,6 +7,7 @@ ghost use mathlib.Core.List.{_++_};
 ghost use Prim.Native.Nat.{_*_, _≤_};
 ghost use lib.ListN.{length, drop};
 ghost use Rattle.codes.specs.Entries.{syndromeCall, hashCall, repairOutcome};
+ghost use Rattle.codes.specs.Listing.{listOutcome};
 ghost use Rattle.strings.specs.Results.{mapped};
 ghost use Rattle.ends.specs.RebuilderCall.{rowsNeeded};
 ghost use Rattle.ends.specs.AnchorSearch.{anchorSearch};
@@ -51,6 +52,16 @@ pub extern "C" fn lo_repair(s: &[u8], bits: usize, n: usize, a: usize, out: &mut
 {
     let answer = codes::repair(s, bits, n, a, out);
     packing::pack_repair(answer)
+}
+
+// Every string of n bits and syndrome a as a number with the first bit highest, rising, in the entries of `out`: their count.
+#[no_mangle]
+pub extern "C" fn lo_list(n: usize, a: usize, out: &mut [u32]) -> u64
+    ensures { λ r. ⌜ r ≡ packed (listOutcome n a (now (out .entry)) .answer) ⌝ }
+    ensures { λ r. ⌜ now (out .exit) ≡ listOutcome n a (now (out .entry)) .buffer ⌝ }
+{
+    let answer = codes::list_syndrome(n, a, out);
+    packing::pack_number(answer)
 }
 
 // The place of an anchor plus 1, or 0 where there is none.

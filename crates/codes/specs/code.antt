@@ -5,3 +5,4 @@ pub mod Edits
 pub mod Weaving
 pub mod HashForms
 pub mod Strides
+pub mod Linking

@@ -1,2 +1,3 @@
 -- Worked examples, computed on the definitions.
 pub mod CountingSamples
+pub mod ListingSamples

@@ -12,6 +12,8 @@ pub mod WeavingLaws
 pub mod ColumnEditLaws
 pub mod TrialLaws
 pub mod EntryLaws
+pub mod ListingLaws
+pub mod LinkingLaws
 pub mod Collision
 pub mod ListCounting
 pub mod CountingLaws

@@ -6,9 +6,10 @@ ghost use lib.ListN.{length, take};
 ghost use Rattle.strings.specs.Bits.{maxBits, range, byteBits, writeBits, Part};
 ghost use Rattle.codes.specs.Syndrome.{syndrome};
 ghost use Rattle.codes.specs.Columns.{column, columnLength, RunApart, repairRun};
+ghost use Rattle.codes.specs.Listing.{numberOf};
 ghost use Rattle.codes.specs.Trials.{agreeing, triedAt};
 ghost use Rattle.codes.specs.code.Edits.{Fits};
-ghost use Rattle.codes.specs.code.Strides.{strided, binary, StridedPart};
+ghost use Rattle.codes.specs.code.Strides.{strided, StridedPart};
 ghost use Rattle.codes.specs.code.Weaving.{woven, Placed, Located, ColumnFound, foundRun};
 use crate::edits::Edit;
 use crate::edits::Repair;
@@ -18,7 +19,7 @@ use crate::weaving::RunRepair;
 // foretell.
 fn four_apart(s: &[u8], p: usize, b: usize) -> u8
     requires { ⌜ StridedPart (now s) p b 4 ⌝ }
-    ensures { λ r. ⌜ r ≡ binary (strided (now (s .entry)) p b 4) ⌝ }
+    ensures { λ r. ⌜ r ≡ numberOf (strided (now (s .entry)) p b 4) ⌝ }
 {
     let first = strings::get_bit(s, p) as u8;
     let second = strings::get_bit(s, p + b) as u8;

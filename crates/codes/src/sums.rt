@@ -37,7 +37,7 @@ pub fn subtract_modulo(a: usize, x: usize, m: usize) -> usize
 
 // One bit more, of the given place: the sum, which is that of the bits so far modulo m, stays below m and is that of one bit more. There is
 // no branch on the bit, because the bits of a string are hard to foretell.
-fn sum_bit(b: bool, place: u32, sum: u32, m: u32) -> u32
+pub fn sum_bit(b: bool, place: u32, sum: u32, m: u32) -> u32
     requires { ⌜ m ≤ 100000 ⌝ }
     requires { ⌜ sum < m ⌝ }
     requires { ⌜ place ≤ m ⌝ }

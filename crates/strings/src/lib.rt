@@ -24,7 +24,7 @@ pub const MAX_BITS: usize = 65536;
 // The same, as the states have numbers.
 pub const MOST_BITS: u32 = MAX_BITS as u32;
 
-// Why a call is turned down (01, "Why a call is turned down"). specs/Refusals.antt has the numbers, 1 to 10 in this order.
+// Why a call is turned down (01, "Why a call is turned down", and 02). specs/Refusals.antt has the numbers; they rise in this order.
 pub enum Refusal {
     // A setting handed in is outside its limits.
     BadSetting,
@@ -46,6 +46,8 @@ pub enum Refusal {
     BufferTooShort,
     // The number B of a burst question is outside 2 to 32.
     BadBurst,
+    // A list buffer has fewer entries than there are strings.
+    ListTooShort,
 }
 
 // The number of a refusal.
@@ -63,6 +65,7 @@ pub fn refusal_number(e: Refusal) -> u32
         Refusal::OutOfRange => 8,
         Refusal::BufferTooShort => 9,
         Refusal::BadBurst => 10,
+        Refusal::ListTooShort => 14,
     }
 }
 

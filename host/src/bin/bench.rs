@@ -1,5 +1,5 @@
 //! Times of the library against the Rust model, in one run on the same inputs; of syndrome and
-//! repairs also against Rust that sums and repairs the same way.
+//! repairs also against Rust that sums and repairs the same way; of lists against a plain loop.
 //!
 //! `cargo run --release --offline --bin bench`
 //!
@@ -15,7 +15,7 @@ use std::time::Instant;
 use lunetteorris::model::Model;
 use lunetteorris::{
     pack, sheet_rows, unpack, BitString, Ends, Library, Settings, HOLDER_BYTES, MAX_BITS,
-    QUESTION_BYTES, REBUILDER_BYTES, REPLY_BYTES, ROW_BYTES,
+    MAX_LIST_BITS, QUESTION_BYTES, REBUILDER_BYTES, REPLY_BYTES, ROW_BYTES,
 };
 
 const LENGTHS: [usize; 3] = [4_096, 16_384, MAX_BITS];
@@ -121,6 +121,7 @@ fn main() {
     println!();
     let verdict = if worst <= RATIO { "within" } else { "ABOVE" };
     println!("Worst ratio {worst:.3}, {verdict} the bound of {RATIO}.");
+    print_lists();
 }
 
 /// Prints the functions' times at all lengths, Rust's under this title; `see` gets the library's.
@@ -661,4 +662,74 @@ fn run_with<E: Ends>(
         ));
     }
     traffic
+}
+
+// All strings of one syndrome
+
+/// Bounds on the longest list: its milliseconds, and how many times as fast as the loop it is.
+const LIST_MILLISECONDS: f64 = 20.0;
+const LIST_FACTOR: f64 = 4.0;
+
+/// The lists of the longest strings, against a loop over all numbers.
+fn print_lists() {
+    println!();
+    println!(
+        "{:<24}{:>8}{:>12}{:>12}{:>8}",
+        "all of one syndrome", "a", "Rattle", "Rust loop", "ratio"
+    );
+    let (mut slowest, mut least): (f64, f64) = (0.0, f64::MAX);
+    for a in [0, 10] {
+        let (library, plain) = time_list(MAX_LIST_BITS, a);
+        slowest = slowest.max(library / 1e3);
+        least = least.min(plain / library);
+        let name = format!("list, n {MAX_LIST_BITS}");
+        let ratio = library / plain;
+        println!("{name:<24}{a:>8}{library:>12.2}{plain:>12.2}{ratio:>8.2}");
+    }
+    let time = if slowest <= LIST_MILLISECONDS {
+        "within"
+    } else {
+        "ABOVE"
+    };
+    let factor = if least >= LIST_FACTOR {
+        "at least"
+    } else {
+        "BELOW"
+    };
+    println!();
+    println!("Slowest list {slowest:.2} ms, {time} the bound of {LIST_MILLISECONDS} ms;");
+    println!("{least:.2} times as fast as the loop, {factor} the {LIST_FACTOR} asked for.");
+}
+
+fn time_list(n: usize, a: usize) -> (f64, f64) {
+    fn call(n: usize, a: usize, out: &mut [u32]) -> u64 {
+        black_box(Library::list(black_box(n), black_box(a), black_box(out)))
+    }
+    let mut list = Vec::with_capacity(1 << n);
+    plain_list(n as u32, a as u32, &mut list);
+    let mut out = vec![0; list.len()];
+    assert_eq!(call(n, a, &mut out), pack(Ok(list.len() as u64)));
+    assert!(out == list);
+    compare(
+        || _ = call(n, a, &mut out),
+        || {
+            plain_list(
+                black_box(n as u32),
+                black_box(a as u32),
+                black_box(&mut list),
+            )
+        },
+    )
+}
+
+/// Each number's syndrome, bit by bit. Of the plain forms tried this one is the fastest: a loop that
+/// adds to a variable takes twice the time.
+fn plain_list(n: u32, a: u32, list: &mut Vec<u32>) {
+    list.clear();
+    for number in 0..1 << n {
+        let sum: u32 = (1..=n).filter(|i| number >> (n - i) & 1 == 1).sum();
+        if sum % (n + 1) == a {
+            list.push(number);
+        }
+    }
 }

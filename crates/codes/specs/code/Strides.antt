@@ -1,7 +1,7 @@
 -- Bits of a string at equal distances, as the code reads a column by bytes.
-use mathlib.Core.Bool.{Bool, true, false}
+use mathlib.Core.Bool.{Bool}
 use mathlib.Core.List.{List, [], _∷_}
-use Prim.Native.Nat.{ℕ, zero, suc, _+_, _*_, _^_, _<_}
+use Prim.Native.Nat.{ℕ, zero, suc, _+_, _*_, _<_}
 use lib.ListN.{length}
 use Rattle.strings.specs.Bits.{bitAt, maxBits}
 
@@ -14,9 +14,3 @@ strided s p B (suc n) = bitAt s p ∷ strided s (p + B) B n
 pub record StridedPart (s : List ℕ) (p B n : ℕ) : Type 0 where
   pub there : p + n * B < 8 * length s + B
   pub few : p + n * B < maxBits + B
-
--- the number with the binary digits l, the first the highest
-abbrev pub binary : List Bool → ℕ
-binary [] = 0
-binary (true ∷ l) = 2 ^ length l + binary l
-binary (false ∷ l) = binary l

@@ -13,9 +13,11 @@ use Rattle.strings.specs.Bits.{bitAt, range, byteBits, writeBits, Bytes, Part}
 use Rattle.strings.specs.laws.WriteLaws.{write-none, write-append}
 use Rattle.strings.specs.laws.ByteLaws.{eight-whole, byte-stored}
 use Rattle.codes.specs.Columns.{column, columnLength}
-use Rattle.codes.specs.code.Strides.{strided, binary, StridedPart}
+use Rattle.codes.specs.Listing.{numberOf}
+use Rattle.codes.specs.code.Strides.{strided, StridedPart}
 use Rattle.codes.specs.laws.SyndromeLaws.{bit-most}
 use Rattle.codes.specs.laws.ColumnLaws.{column-length-behind}
+use Rattle.codes.specs.laws.ListingLaws.{number-none}
 use Rattle.codes.specs.laws.ColumnReadLaws.{column-rest-first, column-turn, column-count}
 
 -- ---- bits at equal distances
@@ -50,33 +52,35 @@ part-next s q B n i h p =
 joined : {x y : Bool} {l m : List Bool} → x ≡ y → l ≡ m → x ∷ l ≡ y ∷ m
 joined e f = ap₂ (λ (x : Bool) (l : List Bool). x ∷ l) e f
 
-binary-next : (b : Bool) (l : List Bool) (k : ℕ) → 2 ^ length l ≡ k → binary (b ∷ l) ≡ k * boolByte b + binary l
-binary-next true l k e = omega arith
-binary-next false l k e = omega arith
+number-next : (b : Bool) (l : List Bool) (k : ℕ) → 2 ^ length l ≡ k → numberOf (b ∷ l) ≡ k * boolByte b + numberOf l
+unfolding numberOf
+number-next true l k e = omega arith
+number-next false l k e = omega arith
 
-binary-four : (a b c d : Bool) → binary (a ∷ b ∷ c ∷ d ∷ []) ≡ 8 * boolByte a + 4 * boolByte b + 2 * boolByte c + boolByte d
-binary-four a b c d =
-    let u = binary-next a (b ∷ c ∷ d ∷ []) 8 refl in
-    let v = binary-next b (c ∷ d ∷ []) 4 refl in
-    let w = binary-next c (d ∷ []) 2 refl in
-    let x = binary-next d [] 1 refl in
+number-four : (a b c d : Bool) → numberOf (a ∷ b ∷ c ∷ d ∷ []) ≡ 8 * boolByte a + 4 * boolByte b + 2 * boolByte c + boolByte d
+number-four a b c d =
+    let u = number-next a (b ∷ c ∷ d ∷ []) 8 refl in
+    let v = number-next b (c ∷ d ∷ []) 4 refl in
+    let w = number-next c (d ∷ []) 2 refl in
+    let x = number-next d [] 1 refl in
+    let z = number-none in
     omega arith
 
 pub four-strided : (s : List ℕ) (p B : ℕ) (a b c d : Bool) → a ≡ bitAt s p → b ≡ bitAt s (p + B) → c ≡ bitAt s (p + 2 * B) → d ≡ bitAt s (p + 3 * B)
-    → 8 * boolByte a + 4 * boolByte b + 2 * boolByte c + boolByte d ≡ binary (strided s p B 4)
+    → 8 * boolByte a + 4 * boolByte b + 2 * boolByte c + boolByte d ≡ numberOf (strided s p B 4)
 unfolding strided
 four-strided s p B a b c d e f g h =
-    sym (binary-four a b c d)
-    ∙ ap binary (joined e (joined f (joined (g ∙ ap (bitAt s) (let k : p + 2 * B ≡ p + B + B = omega arith in k)) (joined {l = []} {m = []} (h ∙ ap (bitAt s) (let k : p + 3 * B ≡ p + B + B + B = omega arith in k)) refl))))
+    sym (number-four a b c d)
+    ∙ ap numberOf (joined e (joined f (joined (g ∙ ap (bitAt s) (let k : p + 2 * B ≡ p + B + B = omega arith in k)) (joined {l = []} {m = []} (h ∙ ap (bitAt s) (let k : p + 3 * B ≡ p + B + B + B = omega arith in k)) refl))))
 
 bit-is : (b : Bool) (n : ℕ) → n ≡ boolByte b → eqb n 1 ≡ b
 bit-is true n e = ap (λ (k : ℕ). eqb k 1) e
 bit-is false n e = ap (λ (k : ℕ). eqb k 1) e
 
-byte-halves : (a b c d e f g h : Bool) (x y : ℕ) → x ≡ binary (a ∷ b ∷ c ∷ d ∷ []) → y ≡ binary (e ∷ f ∷ g ∷ h ∷ []) → byteBits (16 * x + y) ≡ a ∷ b ∷ c ∷ d ∷ e ∷ f ∷ g ∷ h ∷ []
+byte-halves : (a b c d e f g h : Bool) (x y : ℕ) → x ≡ numberOf (a ∷ b ∷ c ∷ d ∷ []) → y ≡ numberOf (e ∷ f ∷ g ∷ h ∷ []) → byteBits (16 * x + y) ≡ a ∷ b ∷ c ∷ d ∷ e ∷ f ∷ g ∷ h ∷ []
 byte-halves a b c d e f g h x y i j =
-    let u = binary-four a b c d in
-    let v = binary-four e f g h in
+    let u = number-four a b c d in
+    let v = number-four e f g h in
     let ma = bit-most a in
     let mb = bit-most b in
     let mc = bit-most c in
@@ -94,17 +98,17 @@ byte-halves a b c d e f g h x y i j =
     (joined (bit-is g ((16 * x + y) / 2 ^ 1 % 2) (omega arith))
     (joined (bit-is h ((16 * x + y) / 2 ^ 0 % 2) (omega arith)) refl)))))))
 
-pub eight-strided : (s : List ℕ) (p B x y : ℕ) → x ≡ binary (strided s p B 4) → y ≡ binary (strided s (p + 4 * B) B 4) → byteBits (16 * x + y) ≡ strided s p B 8
+pub eight-strided : (s : List ℕ) (p B x y : ℕ) → x ≡ numberOf (strided s p B 4) → y ≡ numberOf (strided s (p + 4 * B) B 4) → byteBits (16 * x + y) ≡ strided s p B 8
 unfolding strided
 eight-strided s p B x y e f =
     byte-halves (bitAt s p) (bitAt s (p + B)) (bitAt s (p + B + B)) (bitAt s (p + B + B + B)) (bitAt s (p + 4 * B)) (bitAt s (p + 4 * B + B)) (bitAt s (p + 4 * B + B + B)) (bitAt s (p + 4 * B + B + B + B)) x y e f
     ∙ sym (strided-add s p B 4 4)
 
 -- the number of four digits is below 16
-pub four-most : (s : List ℕ) (p B x : ℕ) → x ≡ binary (strided s p B 4) → x < 16
+pub four-most : (s : List ℕ) (p B x : ℕ) → x ≡ numberOf (strided s p B 4) → x < 16
 unfolding strided
 four-most s p B x e =
-    let u = binary-four (bitAt s p) (bitAt s (p + B)) (bitAt s (p + B + B)) (bitAt s (p + B + B + B)) in
+    let u = number-four (bitAt s p) (bitAt s (p + B)) (bitAt s (p + B + B)) (bitAt s (p + B + B + B)) in
     let ma = bit-most (bitAt s p) in
     let mb = bit-most (bitAt s (p + B)) in
     let mc = bit-most (bitAt s (p + B + B)) in

@@ -126,12 +126,12 @@ module _ (s r a m : ℕ) (pos : 0 < m) where
   whole = let d = div-add-mod' s m in let l = mod-lt s pos in omega arith
 
   -- a sum s that r more brings to a lacks r
-  lack-is : (s + r) % m ≡ a → r < m → (a + (m - s % m)) % m ≡ r
+  pub lack-is : (s + r) % m ≡ a → r < m → (a + (m - s % m)) % m ≡ r
   lack-is e h =
       ap (λ (x : ℕ). (x + (m - s % m)) % m) (sym e) ∙ mod-add-mod (s + r) m (m - s % m)
       ∙ ap (λ (x : ℕ). x % m) (let w = whole in omega arith) ∙ add-mul-mod-self-right r (s / m + 1) m ∙ mod-eq-of-lt h
 
-  lack-adds : r ≡ (a + (m - s % m)) % m → a < m → (s + r) % m ≡ a
+  pub lack-adds : r ≡ (a + (m - s % m)) % m → a < m → (s + r) % m ≡ a
   lack-adds e h =
       ap (λ (x : ℕ). (s + x) % m) e ∙ add-mod-mod s (a + (m - s % m)) m
       ∙ ap (λ (x : ℕ). x % m) (let w = whole in omega arith) ∙ add-mul-mod-self-right a (s / m + 1) m ∙ mod-eq-of-lt h

@@ -16,7 +16,7 @@ use Rattle.strings.specs.Bits.{bitAt, range, byteBits, Eight}
 use Rattle.strings.specs.laws.RangeLaws.{range-length, range-step, range-none, range-add}
 use Rattle.strings.specs.laws.ByteLaws.{eight-bit}
 use Rattle.codes.specs.Syndrome.{weightedSum, syndrome}
-use Rattle.codes.specs.laws.SyndromeLaws.{weighted-sum-append, ones-append, ones-zeros}
+use Rattle.codes.specs.laws.SyndromeLaws.{weighted-sum-append, ones-append, ones-zeros, syndrome-is}
 use Rattle.codes.specs.code.Place.{ones, zeros}
 use Rattle.codes.specs.code.Sums.{Residue, EachLess, total, laneSum, Lanes}
 
@@ -161,8 +161,7 @@ lanes-joined m s a n ts r p q =
 
 -- ---- the syndrome
 pub syndrome-residue : (l : List Bool) (n r : ℕ) → length l ≡ n → Residue (n + 1) (weightedSum 1 l) r → r ≡ syndrome l
-unfolding syndrome
-syndrome-residue l n r e p = p .is ∙ ap (λ (z : ℕ). weightedSum 1 l % (z + 1)) (sym e)
+syndrome-residue l n r e p = p .is ∙ syndrome-is l n (weightedSum 1 l) e refl
 
 -- ---- the count
 pub ones-cons : (b : Bool) (l : List Bool) → ones (b ∷ l) ≡ boolByte b + ones l

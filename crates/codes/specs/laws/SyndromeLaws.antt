@@ -102,6 +102,11 @@ pub syndrome-most : (l : List Bool) → syndrome l ≤ length l
 unfolding syndrome
 syndrome-most l = let h : weightedSum 1 l % (length l + 1) < length l + 1 = mod-lt (weightedSum 1 l) (omega arith) in omega arith
 
+-- from the numbers that a function holds: the length and the sum
+pub syndrome-is : (l : List Bool) (n x : ℕ) → length l ≡ n → x ≡ weightedSum 1 l → x % (n + 1) ≡ syndrome l
+unfolding syndrome
+syndrome-is l n x e f = rw (e, f) refl
+
 -- ---- one more bit read, for a function that passes over the bits
 pub bit-most : (b : Bool) → boolByte b ≤ 1
 bit-most true = omega arith
