@@ -3,11 +3,14 @@
 //! each bit by compare and subtract. There is no division or remainder but by 2 and 8.
 //!
 //! The bits are those of a range, `bits` of them from bit `start` on, as the library takes them: the
-//! piece of a run lies anywhere in a string.
+//! piece of a run lies anywhere in a string. Bits of the range are read with no check of the bounds,
+//! as in the library's code, where the proofs show that each read is in bounds: here `syndrome` and
+//! `repair` see to it that the range lies in the bytes, and the other functions read no bit outside.
 
 /// The syndrome.
 #[inline(never)]
 pub fn syndrome(bytes: &[u8], start: usize, bits: usize) -> u32 {
+    assert!(start + bits <= 8 * bytes.len());
     sum_modulo(bytes, start, bits, bits + 1) as u32
 }
 
@@ -16,6 +19,7 @@ pub fn syndrome(bytes: &[u8], start: usize, bits: usize) -> u32 {
 /// none.
 #[inline(never)]
 pub fn repair(bytes: &[u8], start: usize, bits: usize, n: usize, a: usize, out: &mut [u8]) -> bool {
+    assert!(start + bits <= 8 * bytes.len());
     let edit = if n == bits + 1 {
         put_in(bytes, start, bits, a)
     } else {
@@ -107,10 +111,17 @@ enum Edit {
     TakeOut(usize),
 }
 
-/// The first place with at most r ones from there on, where there are w ones in all.
-fn zero_place(bytes: &[u8], start: usize, bits: usize, w: usize, r: usize) -> usize {
+/// The first place from bit `from` on with at most r ones from there on, where there are w ones.
+fn zero_singly(
+    bytes: &[u8],
+    start: usize,
+    from: usize,
+    bits: usize,
+    w: usize,
+    r: usize,
+) -> usize {
     let mut right = w;
-    for i in 0..bits {
+    for i in from..bits {
         if right <= r {
             return i;
         }
@@ -119,16 +130,46 @@ fn zero_place(bytes: &[u8], start: usize, bits: usize, w: usize, r: usize) -> us
     bits
 }
 
-/// The first place with z zeros before it.
-fn one_place(bytes: &[u8], start: usize, bits: usize, z: usize) -> usize {
+/// The same of all bits: a byte with more than r ones behind it is passed whole.
+fn zero_place(bytes: &[u8], start: usize, bits: usize, w: usize, r: usize) -> usize {
+    let mut right = w;
+    let mut i = 0;
+    while i + 8 <= bits {
+        let behind = right - ones_byte(eight_bits(bytes, start + i)) as usize;
+        if behind <= r {
+            break;
+        }
+        right = behind;
+        i += 8;
+    }
+    zero_singly(bytes, start, i, bits, right, r)
+}
+
+/// The first place from bit `from` on with z zeros between.
+fn one_singly(bytes: &[u8], start: usize, from: usize, bits: usize, z: usize) -> usize {
     let mut left = z;
-    for i in 0..bits {
+    for i in from..bits {
         if left == 0 {
             return i;
         }
         left -= !get_bit(bytes, start + i) as usize;
     }
     bits
+}
+
+/// The same from the first bit on: a byte with fewer zeros than are left to pass is passed whole.
+fn one_place(bytes: &[u8], start: usize, bits: usize, z: usize) -> usize {
+    let mut left = z;
+    let mut i = 0;
+    while i + 8 <= bits {
+        let zeros = 8 - ones_byte(eight_bits(bytes, start + i)) as usize;
+        if left <= zeros {
+            break;
+        }
+        left -= zeros;
+        i += 8;
+    }
+    one_singly(bytes, start, i, bits, left)
 }
 
 /// The bit put in that gives the syndrome a; one for each a up to bits + 1.
@@ -146,44 +187,60 @@ fn put_in(bytes: &[u8], start: usize, bits: usize, a: usize) -> Option<Edit> {
     })
 }
 
-/// The first bit that can be taken out so that the syndrome is a. A 0 lowers the sum by the ones
-/// behind it, 0 to bits - 1; a 1 by its place and the ones behind it, 1 to bits.
+/// The bit taken out so that the syndrome is a. A 0 lowers the sum by the ones behind it, 0 to
+/// bits - 1: it stands where a 0 is put in with as many ones behind it. A 1 lowers it by its place and
+/// the ones behind it, 1 to bits: it stands where a 1 is put in with as many zeros before it as that
+/// is above the count of ones.
 fn take_out(bytes: &[u8], start: usize, bits: usize, a: usize) -> Option<Edit> {
     if a >= bits {
         return None;
     }
     let zero_fall = subtract_modulo(sum_modulo(bytes, start, bits, bits), a, bits);
     let one_fall = if zero_fall == 0 { bits } else { zero_fall };
-    let mut right = ones(bytes, start, bits);
-    for i in 0..bits {
-        let bit = get_bit(bytes, start + i);
-        // The falls are looked at before the bit, which is hard to foretell.
-        if (right == zero_fall && !bit) || (i + right == one_fall && bit) {
-            return Some(Edit::TakeOut(i));
+    let w = ones(bytes, start, bits);
+    let is = |place: usize, bit| place < bits && get_bit(bytes, start + place) == bit;
+    if zero_fall <= w {
+        let place = zero_place(bytes, start, bits, w, zero_fall);
+        if is(place, false) {
+            return Some(Edit::TakeOut(place));
         }
-        right -= bit as usize;
+    }
+    if w <= one_fall {
+        let place = one_place(bytes, start, bits, one_fall - w);
+        if is(place, true) {
+            return Some(Edit::TakeOut(place));
+        }
     }
     None
 }
 
 // Copies
 
-fn get_bit(bytes: &[u8], i: usize) -> bool {
-    (bytes[i / 8] >> (7 - i % 8)) % 2 == 1
+/// Byte i, which holds a bit of the range.
+fn byte_at(bytes: &[u8], i: usize) -> u8 {
+    debug_assert!(i < bytes.len());
+    // SAFETY: the range lies in the bytes, so that a byte with a bit of it is there.
+    unsafe { *bytes.get_unchecked(i) }
 }
 
-/// The eight bits from bit i on.
+/// Bit i, of the range.
+fn get_bit(bytes: &[u8], i: usize) -> bool {
+    (byte_at(bytes, i / 8) >> (7 - i % 8)) % 2 == 1
+}
+
+/// The eight bits from bit i on, all of the range.
 fn eight_bits(bytes: &[u8], i: usize) -> u8 {
     match i % 8 {
-        0 => bytes[i / 8],
-        shift => bytes[i / 8] << shift ^ bytes[i / 8 + 1] >> (8 - shift),
+        0 => byte_at(bytes, i / 8),
+        shift => byte_at(bytes, i / 8) << shift ^ byte_at(bytes, i / 8 + 1) >> (8 - shift),
     }
 }
 
 /// No branch on the bit.
 fn set_bit(bytes: &mut [u8], i: usize, bit: bool) {
-    let turned = get_bit(bytes, i) != bit;
-    bytes[i / 8] ^= (turned as u8) << (7 - i % 8);
+    let byte = &mut bytes[i / 8];
+    let turned = ((*byte >> (7 - i % 8)) % 2 == 1) != bit;
+    *byte ^= (turned as u8) << (7 - i % 8);
 }
 
 /// Writes the edited bits.

@@ -132,7 +132,7 @@ fn ones_four(a: bool, b: bool, c: bool, d: bool) -> u32
 }
 
 // The ones of a byte.
-fn ones_byte(v: u8) -> u32
+pub fn ones_byte(v: u8) -> u32
     ensures { λ r. ⌜ r ≡ ones (byteBits v) ⌝ }
 {
     let low = ones_four(

@@ -1,25 +1,27 @@
 -- Laws for the functions that find a place: the steps of their scans, and what they compute from the numbers that they hold.
-use mathlib.Core.Path.{_≡_, refl, sym, ap, ap₂, _∙_}
+use mathlib.Core.Path.{_≡_, refl, sym, ap, ap₂, _∙_, subst}
 use mathlib.Core.Bool.{Bool, true, false, not, cond}
-use mathlib.Core.List.{List, [], _∷_}
+use mathlib.Core.List.{List, [], _∷_, _++_}
 use mathlib.Core.Option.{none, some}
 use Prim.Native.Nat.{ℕ, zero, suc, _+_, _-_, _*_, _/_, _%_, _≤_, _<_}
 use native.Mathlib.Nat.{add-zero, zero-add, zero-mul, suc-mul, mod-lt, mod-eq-of-lt, mod-add-mod, add-mod-right, add-mul-mod-self-right, mul-add-mod-self-right, div-add-mod'}
 use native.Mathlib.Numerals.{add-one}
 use native.Mathlib.Decide.{decLt, ℕ-discrete}
 use native.Mathlib.Omega.{arith}
-use lib.ListN.{length, drop, getD}
-use lib.Dec.{eqb}
-use borrow.Author.Tests.{le-leb, lt-leb, eq-eqb, ne-eqb, eqb-true, eqb-false}
+use lib.ListN.{length, take, drop, getD, length-drop}
+use lib.Seq.{drop-cons}
+use lib.Dec.{eqb, leb}
+use borrow.Author.Tests.{le-leb, lt-leb, leb-true, eq-eqb, ne-eqb, eqb-true, eqb-false}
 use mir.Val.{boolByte}
-use Rattle.strings.specs.Bits.{bitAt, range}
-use Rattle.strings.specs.laws.RangeLaws.{rest, rest-is, range-length, range-at, range-drop}
+use Rattle.strings.specs.Bits.{range, byteBits, Eight}
+use Rattle.strings.specs.laws.Tests.{true-false}
+use Rattle.strings.specs.laws.RangeLaws.{rest, range-add}
 use Rattle.codes.specs.Syndrome.{weightedSum, syndrome}
-use Rattle.codes.specs.laws.SyndromeLaws.{weighted-sum-without, ones-next, ones-zeros, syndrome-most}
+use Rattle.codes.specs.laws.SyndromeLaws.{weighted-sum-without, ones-next, ones-zeros, ones-append, ones-drop, place-ones, syndrome-most}
 use Rattle.codes.specs.Repair.{without, takeOut}
-use Rattle.codes.specs.laws.RepairLaws.{length-without, without-deletion, take-out-unique, take-out-no}
+use Rattle.codes.specs.laws.RepairLaws.{zero-place-ones, length-without, without-deletion, take-out-unique, take-out-no}
 use Rattle.codes.specs.code.Sums.{Residue}
-use Rattle.codes.specs.code.Place.{ones, zeroPlace, onePlace, lack, putBit, putPlace, firstTake, takePlace, zeroFall, oneFall}
+use Rattle.codes.specs.code.Place.{ones, zeros, zeroPlace, onePlace, lack, putBit, putPlace, firstTake, takePlace, zeroFall, oneFall, Falls, FirstFall}
 
 -- ---- the place of a 0
 pub zero-place-stop : (r : ℕ) (l : List Bool) → ones l ≤ r → zeroPlace r l ≡ 0
@@ -28,6 +30,15 @@ zero-place-stop r (b ∷ l) h = rw (le-leb (ones (b ∷ l)) r h) refl
 
 pub zero-place-next : (r : ℕ) (l l′ : List Bool) (b : Bool) → l ≡ b ∷ l′ → r < ones l → zeroPlace r l ≡ suc (zeroPlace r l′)
 zero-place-next r l l′ b e h = let h′ : r < ones (b ∷ l′) = rw e at h in rw (e, lt-leb (ones (b ∷ l′)) r h′) refl
+
+-- bits are passed together where more than r ones stand behind them
+pub zero-place-pass : (r : ℕ) (l m : List Bool) → r < ones m → zeroPlace r (l ++ m) ≡ length l + zeroPlace r m
+zero-place-pass r [] m h = sym (zero-add (zeroPlace r m))
+zero-place-pass r (b ∷ l) m h =
+    let o = ones-append (b ∷ l) m in
+    let e = zero-place-next r (b ∷ (l ++ m)) (l ++ m) b refl (omega arith) in
+    let f = zero-place-pass r l m h in
+    omega arith
 
 -- ---- the place of a 1
 pub one-place-stop : (z : ℕ) (l : List Bool) → z ≡ 0 → onePlace z l ≡ 0
@@ -48,6 +59,41 @@ one-place-zero (suc z) l l′ e h = let q : suc z - 1 ≡ z = omega arith in rw 
 pub one-place-next : (z : ℕ) (l l′ : List Bool) (b : Bool) → l ≡ b ∷ l′ → (z ≡ 0 → ⊥) → onePlace z l ≡ suc (onePlace (z - boolByte (not b)) l′)
 one-place-next z l l′ true e h = one-place-one z l l′ e h ∙ ap (λ (x : ℕ). suc (onePlace x l′)) (let q : z ≡ z - 0 = omega arith in q)
 one-place-next z l l′ false e h = one-place-zero z l l′ e h
+
+-- bits are passed together where they have fewer zeros than are to be passed
+pub one-place-pass : (z : ℕ) (l m : List Bool) → zeros l < z → onePlace z (l ++ m) ≡ length l + onePlace (z - zeros l) m
+one-place-pass z [] m h = let q : z ≡ z - 0 = omega arith in ap (λ (x : ℕ). onePlace x m) q ∙ sym (zero-add (onePlace (z - 0) m))
+one-place-pass z (true ∷ l) m h =
+    let e = one-place-one z (true ∷ (l ++ m)) (l ++ m) refl (λ q. omega arith) in
+    let f = one-place-pass z l m h in
+    omega arith
+one-place-pass z (false ∷ l) m h =
+    let e = one-place-zero z (false ∷ (l ++ m)) (l ++ m) refl (λ q. omega arith) in
+    let f = one-place-pass (z - 1) l m (omega arith) in
+    let q : z - 1 - zeros l ≡ z - suc (zeros l) = omega arith in
+    let g = ap (λ (x : ℕ). onePlace x m) q in
+    omega arith
+
+-- ---- a byte passed
+module _ (s : List ℕ) (start len i v : ℕ) (h : i + 8 ≤ len) (e : Eight s (start + i) v) where
+  rest-eight : rest s start len i ≡ byteBits v ++ rest s start len (i + 8)
+  rest-eight =
+      let n : len - i ≡ 8 + (len - (i + 8)) = omega arith in
+      let j : start + i + 8 ≡ start + (i + 8) = omega arith in
+      ap (range s (start + i)) n ∙ range-add s (start + i) 8 (len - (i + 8)) ∙ ap₂ (λ (l : List Bool) (x : ℕ). l ++ range s x (len - (i + 8))) (e .bits) j
+
+  pub ones-byte-pass : ones (rest s start len i) ≡ ones (byteBits v) + ones (rest s start len (i + 8))
+  ones-byte-pass = ap ones rest-eight ∙ ones-append (byteBits v) (rest s start len (i + 8))
+
+  pub zero-place-byte : (r : ℕ) → r < ones (rest s start len (i + 8)) → zeroPlace r (rest s start len i) ≡ 8 + zeroPlace r (rest s start len (i + 8))
+  zero-place-byte r k = ap (zeroPlace r) rest-eight ∙ zero-place-pass r (byteBits v) (rest s start len (i + 8)) k
+
+  -- n are the zeros of the byte
+  pub one-place-byte : (z n : ℕ) → n ≡ 8 - ones (byteBits v) → n < z → onePlace z (rest s start len i) ≡ 8 + onePlace (z - n) (rest s start len (i + 8))
+  one-place-byte z n f k =
+      let o : ones (byteBits v) + zeros (byteBits v) ≡ 8 = ones-zeros (byteBits v) in
+      let q : zeros (byteBits v) ≡ n = omega arith in
+      ap (onePlace z) rest-eight ∙ one-place-pass z (byteBits v) (rest s start len (i + 8)) (omega arith) ∙ ap (λ (x : ℕ). 8 + onePlace (z - x) (rest s start len (i + 8))) q
 
 -- ---- the bit and the place, from the length n, the sum x modulo n + 2, the ones w and the lack d
 pub lack-residue : (a : ℕ) (l : List Bool) (n x d : ℕ) → length l ≡ n → Residue (n + 2) (weightedSum 1 l) x → Residue (n + 2) (a + (n + 2 - x)) d → d ≡ lack a l
@@ -72,27 +118,6 @@ without-syndrome i l n x d r e h f g k =
     let m : length (without i l) + 1 ≡ n = length-without i l (omega arith) ∙ e in
     let y : x - d - r ≡ weightedSum 1 (without i l) = omega arith in
     (omega arith, ap₂ (λ (p q : ℕ). p % q) y (sym m))
-
--- what the search for a bit to take out holds at bit i: the sum of the range, the weight of the bit, and the ones behind it
-pub record Without (s : List ℕ) (start len i sum weight right : ℕ) : Type 0 where
-  pub enough : weight + right ≤ sum
-  pub gives : (sum - weight - right) % len ≡ syndrome (without i (range s start len))
-  pub behind : right ≡ ones (rest s start len (i + 1))
-
-pub without-turn : (s : List ℕ) (start len i sum weight right : ℕ) (b y : Bool) → i < len → b ≡ bitAt s (start + i) → b ≡ y → sum ≡ weightedSum 1 (range s start len)
-    → weight ≡ cond y (i + 1) 0 → right ≡ ones (rest s start len (i + 1)) → Without s start len i sum weight right
-without-turn s start len i sum weight right b y h e f g k m =
-    let bit : getD (range s start len) i false ≡ y = range-at s start len i h ∙ sym e ∙ f in
-    let j : i + 1 ≡ 1 + i = omega arith in
-    let behind : drop (suc i) (range s start len) ≡ rest s start len (i + 1) = ap (λ (x : ℕ). drop x (range s start len)) (sym (add-one i)) ∙ range-drop s start len (i + 1) (omega arith) in
-    let w =
-    without-syndrome i (range s start len) len sum weight right (range-length s start len) h g
-    (k ∙ ap₂ (λ (t : Bool) (x : ℕ). cond t x 0) (sym bit) j) (m ∙ ap ones (sym behind)) in
-    record { enough = w .0; gives = w .1; behind = m }
-
--- the ones behind i bits are at most the bits that are left
-pub ones-most : (s : List ℕ) (start len i : ℕ) → ones (rest s start len i) ≤ len - i
-ones-most s start len i = let o = ones-zeros (rest s start len i) in let l = range-length s (start + i) (len - i) in omega arith
 
 -- ---- what a fall of the sum leaves
 -- the fall from the sum x modulo n
@@ -145,79 +170,108 @@ module _ (n x a : ℕ) (h : a < n) where
           whole (yes q) = rw (eq-eqb (zeroFall n x a) 0 q) (eq-eqb f n (omega arith) ∙ sym (eq-eqb 0 (zeroFall n x a) (sym q)))
           whole (no q) = let b = below in rw (ne-eqb (zeroFall n x a) 0 q) (ne-eqb f (zeroFall n x a) (λ z. omega arith) ∙ sym (ne-eqb 0 (zeroFall n x a) (λ z. q (sym z))))
 
--- what the tests of bit i show, by the ones from it on: f₀ is the fall for a 0, f₁ that for a 1
-pub record TakeTurn (l : List Bool) (a i right : ℕ) (b : Bool) (f₀ f₁ : ℕ) : Type 0 where
-  pub zero-found : b ≡ false → right ≡ f₀ → syndrome (without i l) ≡ a
-  pub one-found : b ≡ true → i + right ≡ f₁ → syndrome (without i l) ≡ a
-  pub none-found : (b ≡ false → right ≡ f₀ → ⊥) → (b ≡ true → i + right ≡ f₁ → ⊥) → syndrome (without i l) ≡ a → ⊥
+-- ---- the first 0, the first 1 that lowers the sum so
+-- a 0 with f ones behind it stands at the place where such a 0 is put in, or after it with zeros between
+zero-first : (f : ℕ) (l : List Bool) (k : ℕ) → k < length l → getD l k false ≡ false → ones (drop k l) ≡ f → (zeroPlace f l ≤ k) × (getD l (zeroPlace f l) false ≡ false)
+zero-first f [] k h b e = absurd (omega arith)
+zero-first f (x ∷ l) zero h b e = rw (le-leb (ones (x ∷ l)) f (omega arith)) (omega arith, b)
+zero-first f (x ∷ l) (suc k) h b e = go x (leb (ones (x ∷ l)) f) refl (zero-first f l k (omega arith) b e)
+  where
+    go : (x t : Bool) → leb (ones (x ∷ l)) f ≡ t → (zeroPlace f l ≤ k) × (getD l (zeroPlace f l) false ≡ false)
+        → (cond t 0 (suc (zeroPlace f l)) ≤ suc k) × (getD (x ∷ l) (cond t 0 (suc (zeroPlace f l))) false ≡ false)
+    go x false q ih = let m = ih .0 in (omega arith, ih .1)
+    go false true q ih = (omega arith, refl)
+    go true true q ih = let m = leb-true (suc (ones l)) f q in let o = ones-drop k l in absurd (omega arith)
 
-module _ (s : List ℕ) (start len a i sum right : ℕ) (b : Bool) (h : i < len) (k : a < len) (e : b ≡ bitAt s (start + i)) (f : sum ≡ weightedSum 1 (range s start len)) (g : right ≡ ones (rest s start len i)) where
-  zero-test : b ≡ false → eqb right (zeroFall len sum a) ≡ eqb (syndrome (without i (range s start len))) a
-  zero-test p =
-      let r = rest-is s start len i b false h e p in
-      let o = ones-next (rest s start len i) (rest s start len (i + 1)) false r in
-      let w = without-turn s start len i sum 0 right b false h e p f refl (omega arith) in
-      let m = w .enough in
-      let d : sum - right ≡ sum - 0 - right = omega arith in
-      let z = ones-most s start len (i + 1) in
-      zero-fall len sum a k right (omega arith) (omega arith) ∙ ap (λ (u : ℕ). eqb u a) (ap (λ (u : ℕ). u % len) d ∙ w .gives)
+-- a 1 at the place where a 1 is put in that has as many zeros before it, or after it with ones between
+one-first : (l : List Bool) (k : ℕ) → k < length l → getD l k false ≡ true
+    → (onePlace (zeros (take k l)) l ≤ k) × (getD l (onePlace (zeros (take k l)) l) false ≡ true)
+one-first [] k h b = absurd (omega arith)
+one-first (x ∷ l) zero h b = (omega arith, b)
+one-first (true ∷ l) (suc k) h b = go (zeros (take k l)) (one-first l k (omega arith) b)
+  where
+    go : (z : ℕ) → (onePlace z l ≤ k) × (getD l (onePlace z l) false ≡ true) → (onePlace z (true ∷ l) ≤ suc k) × (getD (true ∷ l) (onePlace z (true ∷ l)) false ≡ true)
+    go zero ih = (omega arith, refl)
+    go (suc z) ih = let m = ih .0 in (omega arith, ih .1)
+one-first (false ∷ l) (suc k) h b = let ih = one-first l k (omega arith) b in let m = ih .0 in (omega arith, ih .1)
 
-  one-test : b ≡ true → eqb (i + right) (oneFall len (zeroFall len sum a)) ≡ eqb (syndrome (without i (range s start len))) a
-  one-test p =
-      let r = rest-is s start len i b true h e p in
-      let o = ones-next (rest s start len i) (rest s start len (i + 1)) true r in
-      let w = without-turn s start len i sum (i + 1) (right - 1) b true h e p f refl (omega arith) in
-      let m = w .enough in
-      let d : sum - (i + right) ≡ sum - (i + 1) - (right - 1) = omega arith in
-      let z = ones-most s start len i in
-      one-fall len sum a k (i + right) (omega arith) (omega arith) (omega arith) ∙ ap (λ (u : ℕ). eqb u a) (ap (λ (u : ℕ). u % len) d ∙ w .gives)
+one-place-found : (z : ℕ) (l : List Bool) → onePlace z l < length l → zeros (take (onePlace z l) l) ≡ z
+one-place-found zero l h = refl
+one-place-found (suc z) [] h = absurd (omega arith)
+one-place-found (suc z) (true ∷ l) h = one-place-found (suc z) l (omega arith)
+one-place-found (suc z) (false ∷ l) h = ap suc (one-place-found z l (omega arith))
 
-  pub take-turn : (f₀ f₁ : ℕ) → f₀ ≡ zeroFall len sum a → f₁ ≡ oneFall len f₀ → TakeTurn (range s start len) a i right b f₀ f₁
-  take-turn f₀ f₁ p q = record {
-    zero-found = λ y t. eqb-true (syndrome (without i (range s start len))) a (sym (zero-test y) ∙ eq-eqb right (zeroFall len sum a) (t ∙ p));
-    one-found = λ y t. eqb-true (syndrome (without i (range s start len))) a (sym (one-test y) ∙ eq-eqb (i + right) (oneFall len (zeroFall len sum a)) (t ∙ one));
-    none-found = λ zero-no one-no z. go zero-no one-no z b refl;
-  }
-    where
-      one : f₁ ≡ oneFall len (zeroFall len sum a)
-      one = q ∙ ap (oneFall len) p
+module _ (l : List Bool) (n : ℕ) (e : length l ≡ n) where
+  no-fall : (b : Bool) (f : ℕ) → ((k : ℕ) → k < n → Falls b f l k → ⊥) → FirstFall b f l n
+  no-fall b f h = record { within = omega arith; found = λ k. absurd (omega arith); first = h }
 
-      go : (b ≡ false → right ≡ f₀ → ⊥) → (b ≡ true → i + right ≡ f₁ → ⊥) → syndrome (without i (range s start len)) ≡ a → (y : Bool) → b ≡ y → ⊥
-      go zero-no one-no z false y = zero-no y (eqb-true right (zeroFall len sum a) (zero-test y ∙ eq-eqb (syndrome (without i (range s start len))) a z) ∙ sym p)
-      go zero-no one-no z true y = one-no y (eqb-true (i + right) (oneFall len (zeroFall len sum a)) (one-test y ∙ eq-eqb (syndrome (without i (range s start len))) a z) ∙ sym one)
+  pub zero-out-above : (f : ℕ) → ones l < f → FirstFall false f l n
+  zero-out-above f h = no-fall false f (λ k g d. let o = ones-drop k l in let s = d .fall in omega arith)
+
+  pub one-out-below : (f : ℕ) → f < ones l → FirstFall true f l n
+  one-out-below f h = no-fall true f (λ k g d. let o = place-ones k l (omega arith) in let s = d .fall in omega arith)
+
+  module _ (f p : ℕ) (q : p ≡ zeroPlace f l) where
+    zero-out-first : (k : ℕ) → k < n → Falls false f l k → (p ≤ k) × (getD l p false ≡ false)
+    zero-out-first k h d = subst (λ (x : ℕ). (x ≤ k) × (getD l x false ≡ false)) (sym q) (zero-first f l k (omega arith) (d .bit) (sym (zero-add (ones (drop k l))) ∙ d .fall))
+
+    pub zero-out-none : (p < n → getD l p false ≡ true) → FirstFall false f l n
+    zero-out-none h = no-fall false f (λ k g d. let z = zero-out-first k g d in let m = z .0 in true-false (sym (h (omega arith)) ∙ z .1))
+
+    pub zero-out-found : f ≤ ones l → p < n → getD l p false ≡ false → FirstFall false f l p
+    zero-out-found h g b = record {
+      within = omega arith;
+      found = λ k. record { bit = b; fall = zero-add (ones (drop p l)) ∙ ap (λ (x : ℕ). ones (drop x l)) q ∙ zero-place-ones f l h };
+      first = λ k m d. let z = zero-out-first k (omega arith) d .0 in omega arith;
+    }
+
+  module _ (f p : ℕ) (h : ones l ≤ f) (q : p ≡ onePlace (f - ones l) l) where
+    one-out-first : (k : ℕ) → k < n → Falls true f l k → (p ≤ k) × (getD l p false ≡ true)
+    one-out-first k g d =
+        let o = place-ones k l (omega arith) in
+        let s = d .fall in
+        let z : zeros (take k l) ≡ f - ones l = omega arith in
+        subst (λ (x : ℕ). (x ≤ k) × (getD l x false ≡ true)) (ap (λ (x : ℕ). onePlace x l) z ∙ sym q) (one-first l k (omega arith) (d .bit))
+
+    pub one-out-none : (p < n → getD l p false ≡ false) → FirstFall true f l n
+    one-out-none b = no-fall true f (λ k g d. let z = one-out-first k g d in let m = z .0 in true-false (sym (z .1) ∙ b (omega arith)))
+
+    pub one-out-found : p < n → getD l p false ≡ true → FirstFall true f l p
+    one-out-found g b =
+        let o = place-ones p l (omega arith) in
+        let z = ap (λ (x : ℕ). zeros (take x l)) q ∙ one-place-found (f - ones l) l (omega arith) in
+        record {
+          within = omega arith;
+          found = λ k. record { bit = b; fall = omega arith };
+          first = λ k m d. let y = one-out-first k (omega arith) d .0 in omega arith;
+        }
 
 -- ---- the first place whose bit can be taken out
 module _ (a : ℕ) (l : List Bool) where
-  pub first-take-here : (n i : ℕ) → i < n → syndrome (without i l) ≡ a → firstTake a l (n - i) i ≡ i
+  first-take-at : (n m i : ℕ) → ((k : ℕ) → i ≤ k → k < i + m → syndrome (without k l) ≡ a → ⊥) → (0 < n → syndrome (without (i + m) l) ≡ a) → firstTake a l (m + n) i ≡ i + m
   unfolding firstTake
-  first-take-here n i h e = let q : n - i ≡ suc (n - i - 1) = omega arith in rw (q, eq-eqb (syndrome (without i l)) a e) refl
+  first-take-at zero zero i h f = sym (add-zero i)
+  first-take-at (suc n) zero i h f =
+      let q : 0 + suc n ≡ suc n = omega arith in
+      rw (q, eq-eqb (syndrome (without i l)) a (ap (λ (x : ℕ). syndrome (without x l)) (sym (add-zero i)) ∙ f (omega arith))) (sym (add-zero i))
+  first-take-at n (suc m) i h f =
+      let q : suc m + n ≡ suc (m + n) = omega arith in
+      let j : i + suc m ≡ suc i + m = omega arith in
+      rw (q, ne-eqb (syndrome (without i l)) a (h i (omega arith) (omega arith)))
+      (first-take-at n m (suc i) (λ k p r. h k (omega arith) (omega arith)) (λ p. ap (λ (x : ℕ). syndrome (without x l)) (sym j) ∙ f p) ∙ sym j)
 
-  pub first-take-next : (n i : ℕ) → i < n → (syndrome (without i l) ≡ a → ⊥) → firstTake a l (n - i) i ≡ firstTake a l (n - (i + 1)) (i + 1)
-  unfolding firstTake
-  first-take-next n i h e =
-      let q : n - i ≡ suc (n - (i + 1)) = omega arith in
-      let j : i + 1 ≡ suc i = omega arith in
-      rw (q, ne-eqb (syndrome (without i l)) a e, j) refl
-
-  pub first-take-end : (n i : ℕ) → n ≤ i → firstTake a l (n - i) i ≡ i
-  unfolding firstTake
-  first-take-end n i h = let q : n - i ≡ 0 = omega arith in rw q refl
-
-  pub take-place-is : (n : ℕ) → length l ≡ n → firstTake a l (n - 0) 0 ≡ takePlace a l
+  take-place-at : (n r : ℕ) → length l ≡ n → r ≤ n → ((k : ℕ) → k < r → syndrome (without k l) ≡ a → ⊥) → (r < n → syndrome (without r l) ≡ a) → r ≡ takePlace a l
   unfolding takePlace
-  take-place-is n e = let q : n - 0 ≡ length l = omega arith in rw q refl
-
-  first-take-none : (n i : ℕ) → ((k : ℕ) → i ≤ k → k < i + n → syndrome (without k l) ≡ a → ⊥) → firstTake a l n i ≡ i + n
-  unfolding firstTake
-  first-take-none zero i h = sym (add-zero i)
-  first-take-none (suc n) i h =
-      rw (ne-eqb (syndrome (without i l)) a (h i (omega arith) (omega arith))) (first-take-none n (suc i) (λ k p q. h k (omega arith) (omega arith)) ∙ omega arith)
+  take-place-at n r e h f g =
+      let q : length l ≡ r + (n - r) = omega arith in
+      let z : 0 + r ≡ r = omega arith in
+      sym (ap (λ (x : ℕ). firstTake a l x 0) q
+      ∙ first-take-at (n - r) r 0 (λ k p m. f k (omega arith)) (λ p. ap (λ (x : ℕ). syndrome (without x l)) z ∙ g (omega arith)) ∙ z)
 
   -- a syndrome that is too large for a bit less
   pub take-place-above : (n : ℕ) → length l ≡ n → n ≤ a → n ≡ takePlace a l
-  unfolding takePlace
   take-place-above n e h =
-      sym (first-take-none (length l) 0 (λ k p q z. let m = syndrome-most (without k l) in let w = length-without k l (omega arith) in omega arith) ∙ zero-add (length l) ∙ e)
+      take-place-at n n e (omega arith) (λ k p z. let m = syndrome-most (without k l) in let w = length-without k l (omega arith) in omega arith) (λ p. absurd (omega arith))
 
   first-take-found : (n i : ℕ) → firstTake a l n i < i + n → syndrome (without (firstTake a l n i) l) ≡ a
   unfolding firstTake
@@ -253,3 +307,51 @@ module _ (a : ℕ) (l : List Bool) where
   unfolding takePlace
   take-place-none h =
       take-out-no a l (λ x d s. let w = d .within in first-take-passed (length l) 0 (d .place) (omega arith) (omega arith) (ap syndrome (sym (d .is)) ∙ s))
+
+-- what falls of the sum x say of the syndrome: f₀ is the fall for a 0, f₁ that for a 1
+module _ (l : List Bool) (n a x f₀ f₁ : ℕ) (e : length l ≡ n) (k : a < n) (f : x ≡ weightedSum 1 l) (p : f₀ ≡ zeroFall n x a) (q : f₁ ≡ oneFall n f₀) where
+  zero-test : (i : ℕ) → i < n → getD l i false ≡ false → eqb (ones (drop i l)) f₀ ≡ eqb (syndrome (without i l)) a
+  zero-test i h b =
+      let right = ones (drop i l) in
+      let o = ones-next (drop i l) (drop (suc i) l) false (drop-cons l i false (omega arith) ∙ ap (λ (y : Bool). y ∷ drop (suc i) l) b) in
+      let w = without-syndrome i l n x 0 right e h f (sym (ap (λ (y : Bool). cond y (1 + i) 0) b)) (omega arith) in
+      let m = w .0 in
+      let d : x - right ≡ x - 0 - right = omega arith in
+      let z = ones-zeros (drop (suc i) l) in
+      let t = length-drop (suc i) l in
+      ap (eqb right) p ∙ zero-fall n x a k right (omega arith) (omega arith) ∙ ap (λ (u : ℕ). eqb u a) (ap (λ (u : ℕ). u % n) d ∙ w .1)
+
+  one-test : (i : ℕ) → i < n → getD l i false ≡ true → eqb (i + ones (drop i l)) f₁ ≡ eqb (syndrome (without i l)) a
+  one-test i h b =
+      let right = ones (drop i l) in
+      let o = ones-next (drop i l) (drop (suc i) l) true (drop-cons l i false (omega arith) ∙ ap (λ (y : Bool). y ∷ drop (suc i) l) b) in
+      let w = without-syndrome i l n x (1 + i) (right - 1) e h f (sym (ap (λ (y : Bool). cond y (1 + i) 0) b)) (omega arith) in
+      let m = w .0 in
+      let d : x - (i + right) ≡ x - (1 + i) - (right - 1) = omega arith in
+      let z = ones-zeros (drop i l) in
+      let t = length-drop i l in
+      ap (eqb (i + right)) (q ∙ ap (oneFall n) p) ∙ one-fall n x a k (i + right) (omega arith) (omega arith) (omega arith) ∙ ap (λ (u : ℕ). eqb u a) (ap (λ (u : ℕ). u % n) d ∙ w .1)
+
+  falls-zero : (i : ℕ) → i < n → Falls false f₀ l i → syndrome (without i l) ≡ a
+  falls-zero i h d = eqb-true (syndrome (without i l)) a (sym (zero-test i h (d .bit)) ∙ eq-eqb (ones (drop i l)) f₀ (sym (zero-add (ones (drop i l))) ∙ d .fall))
+
+  falls-one : (i : ℕ) → i < n → Falls true f₁ l i → syndrome (without i l) ≡ a
+  falls-one i h d = eqb-true (syndrome (without i l)) a (sym (one-test i h (d .bit)) ∙ eq-eqb (i + ones (drop i l)) f₁ (d .fall))
+
+  falls-none : (i : ℕ) → i < n → (Falls false f₀ l i → ⊥) → (Falls true f₁ l i → ⊥) → syndrome (without i l) ≡ a → ⊥
+  falls-none i h zero-no one-no s = go (getD l i false) refl
+    where
+      go : (y : Bool) → getD l i false ≡ y → ⊥
+      go false b = zero-no (record { bit = b; fall = zero-add (ones (drop i l)) ∙ eqb-true (ones (drop i l)) f₀ (zero-test i h b ∙ eq-eqb (syndrome (without i l)) a s) })
+      go true b = one-no (record { bit = b; fall = eqb-true (i + ones (drop i l)) f₁ (one-test i h b ∙ eq-eqb (syndrome (without i l)) a s) })
+
+  -- the first of both
+  module _ (u v : ℕ) (z : FirstFall false f₀ l u) (o : FirstFall true f₁ l v) where
+    before-both : (i : ℕ) → i < u → i < v → syndrome (without i l) ≡ a → ⊥
+    before-both i g h = let m = z .within in falls-none i (omega arith) (z .first i g) (o .first i h)
+
+    pub take-place-zero : u ≤ v → u ≡ takePlace a l
+    take-place-zero h = let m = z .within in take-place-at a l n u e (omega arith) (λ i g. before-both i g (omega arith)) (λ g. falls-zero u g (z .found (omega arith)))
+
+    pub take-place-one : v ≤ u → v ≡ takePlace a l
+    take-place-one h = let m = o .within in take-place-at a l n v e (omega arith) (λ i g. before-both i (omega arith) g) (λ g. falls-one v g (o .found (omega arith)))

@@ -62,7 +62,7 @@ zero-place-within r (b ∷ l) = go (leb (ones (b ∷ l)) r) (zero-place-within r
     go true h = omega arith
     go false h = omega arith
 
-zero-place-ones : (r : ℕ) (l : List Bool) → r ≤ ones l → ones (drop (zeroPlace r l) l) ≡ r
+pub zero-place-ones : (r : ℕ) (l : List Bool) → r ≤ ones l → ones (drop (zeroPlace r l) l) ≡ r
 zero-place-ones r [] h = omega arith
 zero-place-ones r (b ∷ l) h = go b h (leb (ones (b ∷ l)) r) refl (zero-place-ones r l)
   where

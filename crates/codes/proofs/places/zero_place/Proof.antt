@@ -1,12 +1,11 @@
 -- `codes::zero_place` meets its contract: i and the place in the rest are the place in the whole range. Assumes nothing.
-use mathlib.Core.Path.{_≡_, refl, ap}
+use mathlib.Core.Path.{_≡_, ap, _∙_}
 use Prim.Native.Nat.{_+_, _-_, _≤_}
 use native.Mathlib.Omega.{arith}
 use Rattle.strings.specs.Bits.{range}
-use Rattle.strings.specs.laws.RangeLaws.{rest, rest-first, rest-last, rest-is}
+use Rattle.strings.specs.laws.RangeLaws.{rest, rest-first}
 use Rattle.codes.specs.code.Place.{ones, zeroPlace}
-use Rattle.codes.specs.laws.SyndromeLaws.{ones-next}
-use Rattle.codes.specs.laws.PlaceLaws.{zero-place-stop, zero-place-next}
+use Rattle.codes.specs.laws.PlaceLaws.{ones-byte-pass, zero-place-byte}
 use borrow.Author.Needs.{needs}
 use Rattle.codes.proofs.places.zero_place.Statement.{statement}
 use Rattle.codes.proofs.places.zero_place.Tie as tie
@@ -23,21 +22,41 @@ loop-holds c = let e = rest-first (c .before .args .s .now) (c .before .args .st
     let p = ap (zeroPlace (c .before .args .r)) e in
     omega arith
 
+add-loop : tie.Need-add-loop Inv-loop μ-loop
+add-loop c = search needs
+
+add-eight-bits : tie.Need-add-eight-bits Inv-loop μ-loop
+add-eight-bits c = search needs
+
+eight-bits-requires : tie.Need-eight-bits-requires Inv-loop μ-loop
+eight-bits-requires c κs = search needs
+
+ones-byte-requires : tie.Need-ones-byte-requires Inv-loop μ-loop
+ones-byte-requires c κs = search needs
+
+-- the ones of this turn's byte and of those behind it
+turn : (c : tie.After-ones-byte Inv-loop μ-loop)
+    → let args = c .before .before .before .before .before .args in
+    let i = c .before .before .before .loop .i in
+    ones (rest (args .s .now) (args .start) (args .len) i) ≡ c .ones-byte .result + ones (rest (args .s .now) (args .start) (args .len) (i + 8))
+turn c =
+    let args = c .before .before .before .before .before .args in
+    let eight-bits = c .before .eight-bits in
+    let p = ones-byte-pass (args .s .now) (args .start) (args .len) (c .before .before .before .loop .i) (eight-bits .result) (c .before .before .loop-test .taken) (eight-bits .ensures) in
+    let o = c .ones-byte .ensures in
+    omega arith
+
+cast-behind : tie.Need-cast-behind Inv-loop μ-loop
+cast-behind c = search needs
+
+sub-behind : tie.Need-sub-behind Inv-loop μ-loop
+sub-behind c = let o = turn c in omega arith
+
+zero-singly-requires : tie.Need-zero-singly-requires Inv-loop μ-loop
+zero-singly-requires c κs = search needs
+
 returns : tie.Need-returns Inv-loop μ-loop
-returns c = let e = zero-place-stop (c .before .before .before .before .args .r) (rest (c .before .before .before .before .args .s .now) (c .before .before .before .before .args .start) (c .before .before .before .before .args .len) (c .before .before .loop .i)) (omega arith) in omega arith
-
-add-get-bit : tie.Need-add-get-bit Inv-loop μ-loop
-add-get-bit c = search needs
-
-get-bit-requires : tie.Need-get-bit-requires Inv-loop μ-loop
-get-bit-requires c κs = search needs
-
-cast-right : tie.Need-cast-right Inv-loop μ-loop
-cast-right c = search needs
-
-sub-right : tie.Need-sub-right Inv-loop μ-loop
-sub-right c = let b = c .get-bit .result in
-    let o = ones-next _ _ b (rest-is (c .before .before .before .before .before .args .s .now) (c .before .before .before .before .before .args .start) (c .before .before .before .before .before .args .len) (c .before .before .before .loop .i) b b (c .before .before .loop-test .taken) (c .get-bit .ensures) refl) in omega arith
+returns c = c .zero-singly .ensures ∙ c .before .before .before .before .before .loop .inv .2
 
 add-i : tie.Need-add-i Inv-loop μ-loop
 add-i c = search needs
@@ -46,14 +65,18 @@ loop-less : tie.Need-loop-less Inv-loop μ-loop
 loop-less c = search needs
 
 loop-again : tie.Need-loop-again Inv-loop μ-loop
-loop-again c = let b = c .get-bit .result in
-    let e = rest-is (c .before .before .before .before .before .args .s .now) (c .before .before .before .before .before .args .start) (c .before .before .before .before .before .args .len) (c .before .before .before .loop .i) b b (c .before .before .loop-test .taken) (c .get-bit .ensures) refl in
-    let o = ones-next _ _ b e in
-    let p = zero-place-next (c .before .before .before .before .before .args .r) _ _ b e (omega arith) in
+loop-again c =
+    let args = c .before .before .before .before .before .before .args in
+    let eight-bits = c .before .before .eight-bits in
+    let o = turn (c .before) in
+    let p = zero-place-byte (args .s .now) (args .start) (args .len) (c .before .before .before .before .loop .i) (eight-bits .result) (c .before .before .before .loop-test .taken) (eight-bits .ensures) (args .r) (omega arith) in
     omega arith
 
+zero-singly-requires-2 : tie.Need-zero-singly-requires-2 Inv-loop μ-loop
+zero-singly-requires-2 c κs = search needs
+
 returns-2 : tie.Need-returns-2 Inv-loop μ-loop
-returns-2 c = let e = ap (zeroPlace (c .before .before .before .args .r)) (rest-last (c .before .before .before .args .s .now) (c .before .before .before .args .start) (c .before .before .before .args .len) (c .before .loop .i) (c .loop-test .left)) in omega arith
+returns-2 c = c .zero-singly2 .ensures ∙ c .before .before .loop .inv .2
 
 pub zero-place-spec : {M : Type 1} → statement M
 zero-place-spec =
@@ -62,12 +85,16 @@ zero-place-spec =
     Inv-loop
     μ-loop
     loop-holds
+    add-loop
+    add-eight-bits
+    eight-bits-requires
+    ones-byte-requires
+    cast-behind
+    sub-behind
+    zero-singly-requires
     returns
-    add-get-bit
-    get-bit-requires
-    cast-right
-    sub-right
     add-i
     loop-less
     loop-again
+    zero-singly-requires-2
     returns-2)
