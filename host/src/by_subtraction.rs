@@ -84,11 +84,11 @@ fn sum_modulo(bytes: &[u8], start: usize, bits: usize, m: usize) -> usize {
     sum as usize
 }
 
-/// The ones of a byte: its bits added.
+/// The ones of a byte: those of each two of its bits, of each four, of all, added side by side.
 fn ones_byte(byte: u8) -> u32 {
-    let bit = |k: u32| ((byte >> k) % 2) as u32;
-    let low = bit(3) + bit(2) + (bit(1) + bit(0));
-    bit(7) + bit(6) + (bit(5) + bit(4)) + low
+    let twos = byte - ((byte >> 1) & 85);
+    let fours = (twos & 51) + ((twos >> 2) & 51);
+    ((fours + (fours >> 4)) & 15) as u32
 }
 
 fn ones(bytes: &[u8], start: usize, bits: usize) -> usize {
@@ -112,14 +112,7 @@ enum Edit {
 }
 
 /// The first place from bit `from` on with at most r ones from there on, where there are w ones.
-fn zero_singly(
-    bytes: &[u8],
-    start: usize,
-    from: usize,
-    bits: usize,
-    w: usize,
-    r: usize,
-) -> usize {
+fn zero_singly(bytes: &[u8], start: usize, from: usize, bits: usize, w: usize, r: usize) -> usize {
     let mut right = w;
     for i in from..bits {
         if right <= r {

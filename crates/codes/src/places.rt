@@ -157,10 +157,10 @@ fn one_out(s: &[u8], start: usize, len: usize, w: usize, fall: usize) -> usize
     if len <= p {
         return len;
     }
-    if strings::get_bit(s, start + p) {
-        return p;
+    if !strings::get_bit(s, start + p) {
+        return len;
     }
-    len
+    p
 }
 
 // The first bit that can be taken out so that the syndrome is a; len where there is none. A 0 lowers the sum by the ones behind it, 0 to

@@ -124,30 +124,13 @@ pub fn syndrome_of(s: &[u8], start: usize, len: usize) -> usize
     sum_modulo(s, start, len, len + 1)
 }
 
-// The ones of four bits.
-fn ones_four(a: bool, b: bool, c: bool, d: bool) -> u32
-    ensures { λ r. ⌜ r ≡ ones (a ∷ b ∷ c ∷ d ∷ []) ⌝ }
-{
-    a as u32 + b as u32 + (c as u32 + d as u32)
-}
-
-// The ones of a byte.
+// The ones of a byte: those of each two of its bits, of each four, of all, added side by side.
 pub fn ones_byte(v: u8) -> u32
     ensures { λ r. ⌜ r ≡ ones (byteBits v) ⌝ }
 {
-    let low = ones_four(
-        (v >> 3) % 2 == 1,
-        (v >> 2) % 2 == 1,
-        (v >> 1) % 2 == 1,
-        (v >> 0) % 2 == 1,
-    );
-    ones_four(
-        (v >> 7) % 2 == 1,
-        (v >> 6) % 2 == 1,
-        (v >> 5) % 2 == 1,
-        (v >> 4) % 2 == 1,
-    )
-        + low
+    let twos = v - ((v >> 1) & 85);
+    let fours = (twos & 51) + ((twos >> 2) & 51);
+    ((fours + (fours >> 4)) & 15) as u32
 }
 
 // The ones of the first 8 * count bits, by bytes. Numbers of 32 bits are added four at a time, where those of 64 are two.

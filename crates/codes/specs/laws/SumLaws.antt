@@ -10,9 +10,11 @@ use native.Mathlib.Omega.{arith}
 use lib.ListN.{length, getD, set, take, length-set, replicate, getD-replicate}
 use lib.Seq.{getD-set-same, getD-set-other}
 use lib.Dec.{eqb}
-use borrow.Author.Tests.{eq-eqb, ne-eqb}
+use lib.Bits.{bitAnd}
+use borrow.Author.Tests.{eq-eqb, ne-eqb, eqb-true}
 use mir.Val.{boolByte}
 use Rattle.strings.specs.Bits.{bitAt, range, byteBits, Eight}
+use Rattle.strings.specs.laws.Tests.{true-false}
 use Rattle.strings.specs.laws.RangeLaws.{range-length, range-step, range-none, range-add}
 use Rattle.strings.specs.laws.ByteLaws.{eight-bit}
 use Rattle.codes.specs.Syndrome.{weightedSum, syndrome}
@@ -177,13 +179,31 @@ ones-eight s a i v e =
     let j : 8 * (i + 1) ≡ 8 * i + 8 = omega arith in
     sym (ap (λ (n : ℕ). ones (range s a n)) j ∙ ap ones (range-add s a (8 * i) 8) ∙ ones-append (range s a (8 * i)) (range s (a + 8 * i) 8) ∙ ap (λ (l : List Bool). ones (range s a (8 * i)) + ones l) (e .bits))
 
--- the ones of a byte from those of its halves
-pub ones-halves : (v x y : ℕ) → x ≡ ones (eqb (v / 2 ^ 7 % 2) 1 ∷ eqb (v / 2 ^ 6 % 2) 1 ∷ eqb (v / 2 ^ 5 % 2) 1 ∷ eqb (v / 2 ^ 4 % 2) 1 ∷ [])
-    → y ≡ ones (eqb (v / 2 ^ 3 % 2) 1 ∷ eqb (v / 2 ^ 2 % 2) 1 ∷ eqb (v / 2 ^ 1 % 2) 1 ∷ eqb (v / 2 ^ 0 % 2) 1 ∷ []) → (x + y ≡ ones (byteBits v)) × (x + y ≤ 8)
-ones-halves v x y e f =
-    let all = ap₂ (λ (a b : ℕ). a + b) e f ∙ sym (ones-append (eqb (v / 2 ^ 7 % 2) 1 ∷ eqb (v / 2 ^ 6 % 2) 1 ∷ eqb (v / 2 ^ 5 % 2) 1 ∷ eqb (v / 2 ^ 4 % 2) 1 ∷ []) (eqb (v / 2 ^ 3 % 2) 1 ∷ eqb (v / 2 ^ 2 % 2) 1 ∷ eqb (v / 2 ^ 1 % 2) 1 ∷ eqb (v / 2 ^ 0 % 2) 1 ∷ [])) in
-    let most : ones (byteBits v) + zeros (byteBits v) ≡ 8 = ones-zeros (byteBits v) in
-    (all, omega arith)
+-- the ones of a byte as the code adds them: of each two of its bits, of each four, of all; true of all 256 bytes by a test of each
+abbrev twosOf : ℕ → ℕ
+twosOf v = v - bitAnd (v / 2) 85
+
+abbrev foursOf : ℕ → ℕ
+foursOf v = bitAnd (twosOf v) 51 + bitAnd (twosOf v / 4) 51
+
+abbrev added : ℕ → ℕ
+added v = bitAnd (foursOf v + foursOf v / 16) 15
+
+abbrev every : (ℕ → Bool) → ℕ → Bool
+every test zero = true
+every test (suc n) = cond (test n) (every test n) false
+
+every-at : (test : ℕ → Bool) (n : ℕ) → every test n ≡ true → (v : ℕ) → v < n → test v ≡ true
+every-at test zero e v h = absurd (omega arith)
+every-at test (suc n) e v h = go (test n) refl e (ℕ-discrete v n) (every-at test n)
+  where
+    go : (t : Bool) → test n ≡ t → cond t (every test n) false ≡ true → Dec (v ≡ n) → (every test n ≡ true → (v : ℕ) → v < n → test v ≡ true) → test v ≡ true
+    go true f e (yes q) ih = ap test q ∙ f
+    go true f e (no q) ih = ih e v (omega arith)
+    go false f e d ih = absurd (true-false (sym e))
+
+pub ones-added : (v : ℕ) → v < 256 → added v ≡ ones (byteBits v)
+ones-added v h = eqb-true (added v) (ones (byteBits v)) (every-at (λ (x : ℕ). eqb (added x) (ones (byteBits x))) 256 refl v h)
 
 pub ones-few : (s : List ℕ) (a n : ℕ) → ones (range s a n) ≤ n
 ones-few s a n = let e = ones-zeros (range s a n) in let l = range-length s a n in omega arith

@@ -6,6 +6,7 @@ use Rattle.strings.specs.Bits.{range}
 use Rattle.strings.specs.laws.RangeLaws.{range-length, range-at}
 use Rattle.codes.specs.code.Place.{onePlace}
 use Rattle.codes.specs.laws.PlaceLaws.{one-out-below, one-out-none, one-out-found}
+use borrow.Author.Tests.{not-true, not-false}
 use borrow.Author.Needs.{needs}
 use Rattle.codes.proofs.places.one_out.Statement.{statement}
 use Rattle.codes.proofs.places.one_out.Tie as tie
@@ -45,8 +46,7 @@ returns-3 c =
     let bits = range (args .s .now) (args .start) (args .len) in
     let h = c .before .before .before .before .if1 .left in
     let one-place = c .before .before .before .one-place in
-    let within = c .before .before .if2 .left in
-    one-out-found bits (args .len) (range-length _ _ _) (args .fall) (one-place .result) (omega arith) (one-place .ensures ∙ ap (λ x. onePlace (args .fall - x) bits) w) within (range-at (args .s .now) (args .start) (args .len) (one-place .result) within ∙ sym (c .before .get-bit .ensures) ∙ c .if3 .taken)
+    one-out-none bits (args .len) (range-length _ _ _) (args .fall) (one-place .result) (omega arith) (one-place .ensures ∙ ap (λ x. onePlace (args .fall - x) bits) w) (λ k. range-at (args .s .now) (args .start) (args .len) (one-place .result) k ∙ sym (c .before .get-bit .ensures) ∙ not-true _ (c .if3 .taken))
 
 returns-4 : tie.Need-returns-4
 returns-4 c =
@@ -56,7 +56,8 @@ returns-4 c =
     let bits = range (args .s .now) (args .start) (args .len) in
     let h = c .before .before .before .before .if1 .left in
     let one-place = c .before .before .before .one-place in
-    one-out-none bits (args .len) (range-length _ _ _) (args .fall) (one-place .result) (omega arith) (one-place .ensures ∙ ap (λ x. onePlace (args .fall - x) bits) w) (λ k. range-at (args .s .now) (args .start) (args .len) (one-place .result) k ∙ sym (c .before .get-bit .ensures) ∙ c .if3 .left)
+    let within = c .before .before .if2 .left in
+    one-out-found bits (args .len) (range-length _ _ _) (args .fall) (one-place .result) (omega arith) (one-place .ensures ∙ ap (λ x. onePlace (args .fall - x) bits) w) within (range-at (args .s .now) (args .start) (args .len) (one-place .result) within ∙ sym (c .before .get-bit .ensures) ∙ not-false _ (c .if3 .left))
 
 pub one-out-spec : {M : Type 1} → statement M
 one-out-spec =
