@@ -5,7 +5,6 @@ use mathlib.Core.List.{List, [], _∷_, _++_}
 use mathlib.Core.Option.{none, some}
 use Prim.Native.Nat.{ℕ, zero, suc, _+_, _-_, _*_, _/_, _%_, _≤_, _<_}
 use native.Mathlib.Nat.{add-zero, zero-add, zero-mul, suc-mul, mod-lt, mod-eq-of-lt, mod-add-mod, add-mod-right, add-mul-mod-self-right, mul-add-mod-self-right, div-add-mod'}
-use native.Mathlib.Numerals.{add-one}
 use native.Mathlib.Decide.{decLt, ℕ-discrete}
 use native.Mathlib.Omega.{arith}
 use lib.ListN.{length, take, drop, getD, length-drop}
@@ -183,7 +182,7 @@ zero-first f (x ∷ l) (suc k) h b e = go x (leb (ones (x ∷ l)) f) refl (zero-
     go false true q ih = (omega arith, refl)
     go true true q ih = let m = leb-true (suc (ones l)) f q in let o = ones-drop k l in absurd (omega arith)
 
--- a 1 at the place where a 1 is put in that has as many zeros before it, or after it with ones between
+-- a 1 stands at the place where a 1 is put in that has as many zeros before it, or after it with ones between
 one-first : (l : List Bool) (k : ℕ) → k < length l → getD l k false ≡ true
     → (onePlace (zeros (take k l)) l ≤ k) × (getD l (onePlace (zeros (take k l)) l) false ≡ true)
 one-first [] k h b = absurd (omega arith)

@@ -19,7 +19,7 @@ use Rattle.strings.specs.laws.RangeLaws.{range-length, range-step, range-none, 
 use Rattle.strings.specs.laws.ByteLaws.{eight-bit}
 use Rattle.codes.specs.Syndrome.{weightedSum, syndrome}
 use Rattle.codes.specs.laws.SyndromeLaws.{weighted-sum-append, ones-append, ones-zeros, syndrome-is}
-use Rattle.codes.specs.code.Place.{ones, zeros}
+use Rattle.codes.specs.code.Place.{ones}
 use Rattle.codes.specs.code.Sums.{Residue, EachLess, total, laneSum, Lanes}
 
 -- ---- one sum

@@ -3,8 +3,7 @@ use mathlib.Core.Path.{_≡_, refl, ap, _∙_}
 use mathlib.Core.Bool.{not}
 use Prim.Native.Nat.{_+_, _-_, _≤_}
 use native.Mathlib.Omega.{arith}
-use Rattle.strings.specs.Bits.{range}
-use Rattle.strings.specs.laws.RangeLaws.{rest, rest-first, rest-last, rest-is}
+use Rattle.strings.specs.laws.RangeLaws.{rest, rest-last, rest-is}
 use Rattle.codes.specs.code.Place.{onePlace}
 use Rattle.codes.specs.laws.SyndromeLaws.{bit-most}
 use Rattle.codes.specs.laws.PlaceLaws.{one-place-stop, one-place-empty, one-place-next}

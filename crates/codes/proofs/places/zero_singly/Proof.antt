@@ -2,8 +2,7 @@
 use mathlib.Core.Path.{_≡_, refl, ap}
 use Prim.Native.Nat.{_+_, _-_, _≤_}
 use native.Mathlib.Omega.{arith}
-use Rattle.strings.specs.Bits.{range}
-use Rattle.strings.specs.laws.RangeLaws.{rest, rest-first, rest-last, rest-is}
+use Rattle.strings.specs.laws.RangeLaws.{rest, rest-last, rest-is}
 use Rattle.codes.specs.code.Place.{ones, zeroPlace}
 use Rattle.codes.specs.laws.SyndromeLaws.{ones-next}
 use Rattle.codes.specs.laws.PlaceLaws.{zero-place-stop, zero-place-next}
