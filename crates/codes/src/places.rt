@@ -165,7 +165,7 @@ fn one_out(s: &[u8], start: usize, len: usize, w: usize, fall: usize) -> usize
 
 // The first bit that can be taken out so that the syndrome is a; len where there is none. A 0 lowers the sum by the ones behind it, 0 to
 // len - 1; a 1 by its place and the ones behind it, 1 to len. Nearly always only one of the two is looked for: a 0 for a fall up to the
-// count of ones, a 1 for one from there on.
+// count of ones, a 1 for one from there on. There are never both.
 fn take_place(s: &[u8], start: usize, len: usize, a: usize) -> usize
     requires { ⌜ Part (now s) start len ⌝ }
     ensures { λ r. ⌜ r ≡ takePlace a (range (now (s .entry)) start len) ⌝ }
@@ -178,11 +178,10 @@ fn take_place(s: &[u8], start: usize, len: usize, a: usize) -> usize
     let for_one = one_fall(len, for_zero);
     let w = crate::sums::ones_of(s, start, len);
     let zero = zero_out(s, start, len, w, for_zero);
-    let one = one_out(s, start, len, w, for_one);
-    if zero < one {
+    if zero < len {
         return zero;
     }
-    one
+    one_out(s, start, len, w, for_one)
 }
 
 // The bit taken out that gives the syndrome a, if there is one.

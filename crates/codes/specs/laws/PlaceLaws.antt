@@ -8,7 +8,7 @@ use native.Mathlib.Nat.{add-zero, zero-add, zero-mul, suc-mul, mod-lt, mod-eq-of
 use native.Mathlib.Decide.{decLt, ℕ-discrete}
 use native.Mathlib.Omega.{arith}
 use lib.ListN.{length, take, drop, getD, length-drop}
-use lib.Seq.{drop-cons}
+use lib.Seq.{drop-cons, drop-drop}
 use lib.Dec.{eqb, leb}
 use borrow.Author.Tests.{le-leb, lt-leb, leb-true, eq-eqb, ne-eqb, eqb-true, eqb-false}
 use mir.Val.{boolByte}
@@ -16,7 +16,7 @@ use Rattle.strings.specs.Bits.{range, byteBits, Eight}
 use Rattle.strings.specs.laws.Tests.{true-false}
 use Rattle.strings.specs.laws.RangeLaws.{rest, range-add}
 use Rattle.codes.specs.Syndrome.{weightedSum, syndrome}
-use Rattle.codes.specs.laws.SyndromeLaws.{weighted-sum-without, ones-next, ones-zeros, ones-append, ones-drop, place-ones, syndrome-most}
+use Rattle.codes.specs.laws.SyndromeLaws.{weighted-sum-without, ones-next, ones-zeros, ones-append, ones-drop, ones-drop-most, place-ones, syndrome-most}
 use Rattle.codes.specs.Repair.{without, takeOut}
 use Rattle.codes.specs.laws.RepairLaws.{zero-place-ones, length-without, without-deletion, take-out-unique, take-out-no}
 use Rattle.codes.specs.code.Sums.{Residue}
@@ -344,13 +344,29 @@ module _ (l : List Bool) (n a x f₀ f₁ : ℕ) (e : length l ≡ n) (k : a < n
       go false b = zero-no (record { bit = b; fall = zero-add (ones (drop i l)) ∙ eqb-true (ones (drop i l)) f₀ (zero-test i h b ∙ eq-eqb (syndrome (without i l)) a s) })
       go true b = one-no (record { bit = b; fall = eqb-true (i + ones (drop i l)) f₁ (one-test i h b ∙ eq-eqb (syndrome (without i l)) a s) })
 
-  -- the first of both
-  module _ (u v : ℕ) (z : FirstFall false f₀ l u) (o : FirstFall true f₁ l v) where
-    before-both : (i : ℕ) → i < u → i < v → syndrome (without i l) ≡ a → ⊥
-    before-both i g h = let m = z .within in falls-none i (omega arith) (z .first i g) (o .first i h)
+  -- a 1 before a 0 lowers the sum by 1 to n - 1 more than the 0
+  one-before-zero : (i u : ℕ) → i < u → u < n → Falls false f₀ l u → Falls true f₁ l i → ⊥
+  one-before-zero i u h g z o =
+      let from = ones-next (drop i l) (drop (suc i) l) true (drop-cons l i false (omega arith) ∙ ap (λ (y : Bool). y ∷ drop (suc i) l) (o .bit)) in
+      let j : suc i + (u - suc i) ≡ u = omega arith in
+      let d = ap ones (drop-drop (u - suc i) (suc i) l ∙ ap (λ (y : ℕ). drop y l) j) in
+      let least = ones-drop (u - suc i) (drop (suc i) l) in
+      let most = ones-drop-most (u - suc i) (drop (suc i) l) in
+      go (ℕ-discrete f₀ 0) from d least most (z .fall) (o .fall)
+    where
+      go : Dec (f₀ ≡ 0) → ones (drop i l) ≡ ones (drop (suc i) l) + 1 → ones (drop (u - suc i) (drop (suc i) l)) ≡ ones (drop u l) → ones (drop (u - suc i) (drop (suc i) l)) ≤ ones (drop (suc i) l)
+          → ones (drop (suc i) l) ≤ ones (drop (u - suc i) (drop (suc i) l)) + (u - suc i) → 0 + ones (drop u l) ≡ f₀ → i + ones (drop i l) ≡ f₁ → ⊥
+      go (yes y) from d least most z o = let w : f₁ ≡ n = q ∙ ap (λ (t : Bool). cond t n f₀) (eq-eqb f₀ 0 y) in omega arith
+      go (no y) from d least most z o = let w : f₁ ≡ f₀ = q ∙ ap (λ (t : Bool). cond t n f₀) (ne-eqb f₀ 0 y) in omega arith
 
-    pub take-place-zero : u ≤ v → u ≡ takePlace a l
-    take-place-zero h = let m = z .within in take-place-at a l n u e (omega arith) (λ i g. before-both i g (omega arith)) (λ g. falls-zero u g (z .found (omega arith)))
+  -- the first 0, or if there is none the first 1
+  module _ (u : ℕ) (z : FirstFall false f₀ l u) where
+    pub take-place-zero : u < n → u ≡ takePlace a l
+    take-place-zero h =
+        let there = z .found (omega arith) in
+        take-place-at a l n u e (omega arith) (λ i g. falls-none i (omega arith) (z .first i g) (one-before-zero i u g h there)) (λ g. falls-zero u g there)
 
-    pub take-place-one : v ≤ u → v ≡ takePlace a l
-    take-place-one h = let m = o .within in take-place-at a l n v e (omega arith) (λ i g. before-both i (omega arith) g) (λ g. falls-one v g (o .found (omega arith)))
+    pub take-place-one : (v : ℕ) → n ≤ u → FirstFall true f₁ l v → v ≡ takePlace a l
+    take-place-one v h o =
+        let m = o .within in
+        take-place-at a l n v e (omega arith) (λ i g. falls-none i (omega arith) (z .first i (omega arith)) (o .first i g)) (λ g. falls-one v g (o .found (omega arith)))

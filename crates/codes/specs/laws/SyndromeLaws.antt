@@ -80,6 +80,12 @@ ones-drop (suc p) [] = omega arith
 ones-drop (suc p) (true ∷ l) = let h = ones-drop p l in omega arith
 ones-drop (suc p) (false ∷ l) = ones-drop p l
 
+pub ones-drop-most : (p : ℕ) (l : List Bool) → ones l ≤ ones (drop p l) + p
+ones-drop-most zero l = omega arith
+ones-drop-most (suc p) [] = omega arith
+ones-drop-most (suc p) (true ∷ l) = let h = ones-drop-most p l in omega arith
+ones-drop-most (suc p) (false ∷ l) = let h = ones-drop-most p l in omega arith
+
 pub zeros-take : (p : ℕ) (l : List Bool) → zeros (take p l) ≤ zeros l
 zeros-take zero l = omega arith
 zeros-take (suc p) [] = omega arith

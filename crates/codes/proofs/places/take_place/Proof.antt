@@ -1,6 +1,5 @@
--- `codes::take_place` meets its contract: the first place of both bits is the first of all. Assumes nothing.
+-- `codes::take_place` meets its contract. Assumes nothing.
 use mathlib.Core.Path.{refl}
-use native.Mathlib.Omega.{arith}
 use Rattle.strings.specs.Bits.{range}
 use Rattle.strings.specs.laws.RangeLaws.{range-length}
 use Rattle.codes.specs.Syndrome.{weightedSum}
@@ -29,20 +28,18 @@ ones-of-requires c κs = search needs
 zero-out-requires : tie.Need-zero-out-requires
 zero-out-requires c κs = search needs
 
-one-out-requires : tie.Need-one-out-requires
-one-out-requires c κs = search needs
-
 returns-2 : tie.Need-returns-2
 returns-2 c =
-    let args = c .before .before .before .before .before .before .before .before .before .args in
+    let args = c .before .before .before .before .before .before .before .before .args in
     let bits = range (args .s .now) (args .start) (args .len) in
-    let sum = c .before .before .before .before .before .before .sum-modulo in
-    let fall = c .before .before .before .before .before .subtract-modulo in
-    let for-one = c .before .before .before .before .one-fall in
-    let zero = c .before .before .zero-out in
-    let one = c .before .one-out in
-    let h = c .if2 .taken in
-    take-place-zero bits (args .len) (args .a) (weightedSum 1 bits) (fall .result) (for-one .result) (range-length _ _ _) (c .before .before .before .before .before .before .before .if1 .left) refl (zero-fall-is (args .len) (weightedSum 1 bits) (args .a) (sum .result) (fall .result) (sum .ensures) (fall .ensures)) (for-one .ensures) (zero .result) (one .result) (zero .ensures) (one .ensures) (omega arith)
+    let sum = c .before .before .before .before .before .sum-modulo in
+    let fall = c .before .before .before .before .subtract-modulo in
+    let for-one = c .before .before .before .one-fall in
+    let zero = c .before .zero-out in
+    take-place-zero bits (args .len) (args .a) (weightedSum 1 bits) (fall .result) (for-one .result) (range-length _ _ _) (c .before .before .before .before .before .before .if1 .left) refl (zero-fall-is (args .len) (weightedSum 1 bits) (args .a) (sum .result) (fall .result) (sum .ensures) (fall .ensures)) (for-one .ensures) (zero .result) (zero .ensures) (c .if2 .taken)
+
+one-out-requires : tie.Need-one-out-requires
+one-out-requires c κs = search needs
 
 returns-3 : tie.Need-returns-3
 returns-3 c =
@@ -52,8 +49,7 @@ returns-3 c =
     let fall = c .before .before .before .before .before .subtract-modulo in
     let for-one = c .before .before .before .before .one-fall in
     let zero = c .before .before .zero-out in
-    let one = c .before .one-out in
-    take-place-one bits (args .len) (args .a) (weightedSum 1 bits) (fall .result) (for-one .result) (range-length _ _ _) (c .before .before .before .before .before .before .before .if1 .left) refl (zero-fall-is (args .len) (weightedSum 1 bits) (args .a) (sum .result) (fall .result) (sum .ensures) (fall .ensures)) (for-one .ensures) (zero .result) (one .result) (zero .ensures) (one .ensures) (c .if2 .left)
+    take-place-one bits (args .len) (args .a) (weightedSum 1 bits) (fall .result) (for-one .result) (range-length _ _ _) (c .before .before .before .before .before .before .before .if1 .left) refl (zero-fall-is (args .len) (weightedSum 1 bits) (args .a) (sum .result) (fall .result) (sum .ensures) (fall .ensures)) (for-one .ensures) (zero .result) (zero .ensures) (c .one-out .result) (c .before .if2 .left) (c .one-out .ensures)
 
 pub take-place-spec : {M : Type 1} → statement M
 take-place-spec =
@@ -65,6 +61,6 @@ take-place-spec =
     one-fall-requires
     ones-of-requires
     zero-out-requires
-    one-out-requires
     returns-2
+    one-out-requires
     returns-3)
