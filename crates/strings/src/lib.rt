@@ -48,6 +48,8 @@ pub enum Refusal {
     BadBurst,
     // A list buffer has fewer entries than there are strings.
     ListTooShort,
+    // A marker's message has another bit count than n - t.
+    MessageLength,
 }
 
 // The number of a refusal.
@@ -66,6 +68,7 @@ pub fn refusal_number(e: Refusal) -> u32
         Refusal::BufferTooShort => 9,
         Refusal::BadBurst => 10,
         Refusal::ListTooShort => 14,
+        Refusal::MessageLength => 15,
     }
 }
 

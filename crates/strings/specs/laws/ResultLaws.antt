@@ -5,7 +5,7 @@ use Prim.Native.Nat.{ℕ, _≤_}
 use native.Mathlib.Omega.{arith}
 use Rattle.strings.specs.Refusals.{refusalNumber}
 use Rattle.strings.specs.declared.Refusal.{Refusal}
-use Rattle.strings.specs.declared.Refusal.the-variants.{BadSetting, BadString, OutOfTurn, Truncated, BadNumber, BadKind, TrailingBytes, OutOfRange, BufferTooShort, BadBurst, ListTooShort}
+use Rattle.strings.specs.declared.Refusal.the-variants.{BadSetting, BadString, OutOfTurn, Truncated, BadNumber, BadKind, TrailingBytes, OutOfRange, BufferTooShort, BadBurst, ListTooShort, MessageLength}
 use Rattle.strings.specs.Results.{Result, refusal, value, unless, andThen, mapped}
 
 -- a value is no refusal
@@ -59,7 +59,7 @@ pub numbered-mapped : {A B : Type 0} (g : A → B) (r : Result A) → Numbered r
 numbered-mapped g (refusal k) n = let i = n .one k refl in record { one = λ j h. (i .0, sym (refusal-is h) ∙ i .1) }
 numbered-mapped g (value a) n = numbered-value (g a)
 
-pub refusal-small : (e : Refusal) → (1 ≤ refusalNumber e) × (refusalNumber e ≤ 14)
+pub refusal-small : (e : Refusal) → (1 ≤ refusalNumber e) × (refusalNumber e ≤ 15)
 refusal-small BadSetting = (omega arith, omega arith)
 refusal-small BadString = (omega arith, omega arith)
 refusal-small OutOfTurn = (omega arith, omega arith)
@@ -71,3 +71,4 @@ refusal-small OutOfRange = (omega arith, omega arith)
 refusal-small BufferTooShort = (omega arith, omega arith)
 refusal-small BadBurst = (omega arith, omega arith)
 refusal-small ListTooShort = (omega arith, omega arith)
+refusal-small MessageLength = (omega arith, omega arith)
