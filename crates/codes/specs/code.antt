@@ -6,3 +6,4 @@ pub mod Weaving
 pub mod HashForms
 pub mod Strides
 pub mod Linking
+pub mod MarkerBlocks

@@ -1,3 +1,4 @@
 -- Worked examples, computed on the definitions.
 pub mod CountingSamples
 pub mod ListingSamples
+pub mod MarkerSamples

@@ -14,6 +14,10 @@ pub mod TrialLaws
 pub mod EntryLaws
 pub mod ListingLaws
 pub mod LinkingLaws
+pub mod PowerLaws
+pub mod MarkerLaws
+pub mod MarkerBlockLaws
+pub mod MarkerEntryLaws
 pub mod Collision
 pub mod ListCounting
 pub mod CountingLaws

@@ -14,9 +14,9 @@ pub enum NumberAnswer {
 }
 
 pub enum RepairAnswer {
-    // The first bytes of the buffer are the repaired string.
+    // The first bytes of the buffer are the repaired string; for a received marker, its message.
     Done,
-    // No deletion gives the syndrome; the buffer is as it was.
+    // No deletion gives the syndrome; for a received marker, the builder makes no such word. The buffer is as it was.
     Nothing,
     // The call is turned down; the buffer is as it was.
     Refused(Refusal),
