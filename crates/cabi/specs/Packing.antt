@@ -11,7 +11,7 @@ unfoldable pub packed : Result ℕ → ℕ
 packed (refusal number) = number
 packed (value v) = v * valueUnit
 
--- a repair that is done is 1, none is 0
+-- a repair that is done, a marker that is built or read, is 1, none is 0
 abbrev pub doneNumber : Bool → ℕ
 doneNumber true = 1
 doneNumber false = 0

@@ -8,6 +8,7 @@ ghost use Prim.Native.Nat.{_*_, _≤_};
 ghost use lib.ListN.{length, drop};
 ghost use Rattle.codes.specs.Entries.{syndromeCall, hashCall, repairOutcome};
 ghost use Rattle.codes.specs.Listing.{listOutcome};
+ghost use Rattle.codes.specs.Markers.{buildOutcome, readOutcome};
 ghost use Rattle.strings.specs.Results.{mapped};
 ghost use Rattle.ends.specs.RebuilderCall.{rowsNeeded};
 ghost use Rattle.ends.specs.AnchorSearch.{anchorSearch};
@@ -62,6 +63,38 @@ pub extern "C" fn lo_list(n: usize, a: usize, out: &mut [u32]) -> u64
 {
     let answer = codes::list_syndrome(n, a, out);
     packing::pack_number(answer)
+}
+
+// The word of n bits and syndrome a for a message: 1 where it is built.
+#[no_mangle]
+pub extern "C" fn lo_marker_build(
+    message: &[u8],
+    bits: usize,
+    n: usize,
+    a: usize,
+    out: &mut [u8],
+) -> u64
+    ensures { λ r. ⌜ r ≡ packed (mapped doneNumber (buildOutcome (now (message .entry)) bits n a (now (out .entry)) .answer)) ⌝ }
+    ensures { λ r. ⌜ now (out .exit) ≡ buildOutcome (now (message .entry)) bits n a (now (out .entry)) .buffer ⌝ }
+{
+    let answer = codes::build_marker(message, bits, n, a, out);
+    packing::pack_build(answer)
+}
+
+// The message of the word of n bits and syndrome a for which a string is received: 1 where there is one, 0 where there is none.
+#[no_mangle]
+pub extern "C" fn lo_marker_read(
+    received: &[u8],
+    bits: usize,
+    n: usize,
+    a: usize,
+    out: &mut [u8],
+) -> u64
+    ensures { λ r. ⌜ r ≡ packed (mapped doneNumber (readOutcome (now (received .entry)) bits n a (now (out .entry)) .answer)) ⌝ }
+    ensures { λ r. ⌜ now (out .exit) ≡ readOutcome (now (received .entry)) bits n a (now (out .entry)) .buffer ⌝ }
+{
+    let answer = codes::read_marker(received, bits, n, a, out);
+    packing::pack_repair(answer)
 }
 
 // The place of an anchor plus 1, or 0 where there is none.

@@ -3,10 +3,12 @@ ghost use mathlib.Core.Path.{_≡_};
 ghost use mathlib.Core.List.{List};
 ghost use Prim.Native.Nat.{ℕ, _≤_};
 ghost use Rattle.codes.specs.Entries.{saidValue, saidRepair};
+ghost use Rattle.codes.specs.Markers.{saidBuild};
 ghost use Rattle.ends.specs.AnchorSearch.{saidAnchor};
 ghost use Rattle.strings.specs.Refusals.{refusalNumber};
 ghost use Rattle.strings.specs.Results.{refusal, mapped};
 ghost use Rattle.cabi.specs.Packing.{packed, doneNumber, placeNumber};
+use codes::BuildAnswer;
 use codes::NumberAnswer;
 use codes::RepairAnswer;
 use ends::AnchorAnswer;
@@ -32,7 +34,7 @@ pub fn pack_number(a: NumberAnswer) -> u64
     }
 }
 
-// Whether a repair was done, or a refusal.
+// Whether a repair was done, or a marker read, or a refusal.
 pub fn pack_repair(a: RepairAnswer) -> u64
     ensures { λ r. ⌜ ((out : List ℕ) → r ≡ packed (mapped doneNumber (saidRepair a out .answer))) ⌝ }
 {
@@ -40,6 +42,16 @@ pub fn pack_repair(a: RepairAnswer) -> u64
         RepairAnswer::Done => VALUE_UNIT,
         RepairAnswer::Nothing => 0,
         RepairAnswer::Refused(e) => pack_refusal(e),
+    }
+}
+
+// That a marker was built, or a refusal.
+pub fn pack_build(a: BuildAnswer) -> u64
+    ensures { λ r. ⌜ ((out : List ℕ) → r ≡ packed (mapped doneNumber (saidBuild a out .answer))) ⌝ }
+{
+    match a {
+        BuildAnswer::Built => VALUE_UNIT,
+        BuildAnswer::Refused(e) => pack_refusal(e),
     }
 }
 

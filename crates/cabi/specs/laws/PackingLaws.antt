@@ -7,8 +7,11 @@ use native.Mathlib.Omega.{arith}
 use Rattle.strings.specs.Bits.{maxBits}
 use Rattle.strings.specs.Results.{Result, refusal, value, mapped}
 use Rattle.codes.specs.Entries.{saidRepair}
+use Rattle.codes.specs.Markers.{saidBuild}
 use Rattle.codes.specs.declared.entries.RepairAnswer.{RepairAnswer}
 use Rattle.codes.specs.declared.entries.RepairAnswer.the-variants.{Done, Nothing, Refused}
+use Rattle.codes.specs.declared.markers.BuildAnswer.{BuildAnswer}
+use Rattle.codes.specs.declared.markers.BuildAnswer.the-variants.{Built, Refused as BuildRefused}
 use Rattle.ends.specs.AnchorSearch.{anchorSearch, saidAnchor}
 use Rattle.ends.specs.code.AnchorSearchLaws.{AnswerMost, search-most}
 use Rattle.ends.specs.declared.anchors.AnchorAnswer.{AnchorAnswer}
@@ -48,3 +51,8 @@ pub said-buffer : (a : RepairAnswer) (out : List ℕ) → saidRepair a out .buff
 said-buffer Done out = refl
 said-buffer Nothing out = refl
 said-buffer (Refused e) out = refl
+
+-- the buffer that a builder's answer goes with
+pub built-buffer : (a : BuildAnswer) (out : List ℕ) → saidBuild a out .buffer ≡ out
+built-buffer Built out = refl
+built-buffer (BuildRefused e) out = refl
