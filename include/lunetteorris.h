@@ -21,8 +21,8 @@
  * slices that are only read (X, Y, messages) may be lent to several of them.
  *
  * Results. Each is value * 256 + refusal: LO_REFUSAL(r) is 0 where the call was not turned down,
- * and LO_VALUE(r) is then the answer. Otherwise LO_REFUSAL(r) is 1 to 10 or 14, and the call
- * changed nothing. Where several refusals apply, the order given with a function decides.
+ * and LO_VALUE(r) is then the answer. Otherwise LO_REFUSAL(r) is 1 to 10, 14 or 15, and the
+ * call changed nothing. Where several refusals apply, the order given with a function decides.
  *
  * Messages. The host carries them as they are. A question is open (kind 0: version, h, key), hash
  * (1: start, length), syndrome (2: start, length), bits (3: start, length) or burst (4: start,
@@ -56,16 +56,18 @@ extern "C" {
 #define LO_BUFFER_TOO_SHORT 9 /* a lent buffer or sheet is too short */
 #define LO_BAD_BURST 10       /* a question of kind 4 with a B outside 2 to 32 */
 #define LO_LIST_TOO_SHORT 14  /* a list buffer has fewer entries than there are strings */
+#define LO_MESSAGE_LENGTH 15  /* a marker's message has another bit count than n - t */
 
 /* Sizes */
 #define LO_MAX_BITS 65536
-#define LO_MAX_LIST_BITS 20    /* the most bits of the strings that lo_list lists */
-#define LO_HOLDER_BYTES 20     /* a holder's state */
-#define LO_REBUILDER_BYTES 564 /* a rebuilder's state */
-#define LO_ROW_BYTES 12        /* a row of the sheet */
-#define LO_QUESTION_BYTES 8    /* each question buffer, at least */
-#define LO_REPLY_BYTES 8193    /* the longest reply; no reply on n bits is longer than the larger of
-                                  102 and 1 + ceil(n/8) bytes */
+#define LO_MAX_LIST_BITS 20     /* the most bits of the strings that lo_list lists */
+#define LO_MAX_MARKER_BITS 4096 /* the most bits of a marker word */
+#define LO_HOLDER_BYTES 20      /* a holder's state */
+#define LO_REBUILDER_BYTES 564  /* a rebuilder's state */
+#define LO_ROW_BYTES 12         /* a row of the sheet */
+#define LO_QUESTION_BYTES 8     /* each question buffer, at least */
+#define LO_REPLY_BYTES 8193     /* the longest reply; no reply on n bits is longer than the larger
+                                   of 102 and 1 + ceil(n/8) bytes */
 #define LO_STRING_BYTES(n) (((n) + 7) / 8)
 #define LO_SHEET_ROWS(n, m) (2 * ((n) / (m)) + 1)
 #define LO_SHEET_BYTES(n, m) (LO_ROW_BYTES * LO_SHEET_ROWS(n, m))
@@ -138,6 +140,28 @@ uint64_t lo_repair(const uint8_t *s, size_t s_len, size_t bits, size_t n, size_t
  * counts entries; 2^n are always enough. The string of no bits is 0.
  * Refusals 8 (n above LO_MAX_LIST_BITS, a above n); 14 (fewer entries than there are strings). */
 uint64_t lo_list(size_t n, size_t a, uint32_t *out, size_t out_len);
+
+/* The marker word of n bits for a message and the syndrome a. With t = ceil(log2(n + 1)), which is
+ * the count of n's binary digits, the message has n - t bits. They stand in order at the places,
+ * counted from 1, that are not powers of two. The places 1, 2, 4, .. hold a number of t digits, the
+ * place 2^j its digit of 2^j: a less the sum of the places of the message's ones, modulo n + 1. So
+ * the word has syndrome a. Value 1: the first ceil(n/8) bytes of out are the word, later bytes are
+ * as they were.
+ * Refusals 2; 8 (n not 1 to LO_MAX_MARKER_BITS, a above n); 15 (bits is not n - t); 9 (out shorter
+ * than ceil(n/8)). */
+uint64_t lo_marker_build(const uint8_t *message, size_t message_len, size_t bits, size_t n,
+                         size_t a, uint8_t *out, size_t out_len);
+
+/* The message of the marker word of n bits and syndrome a that was received whole (bits is n), with
+ * one bit lost (n - 1) or with one bit added (n + 1). Value 1: the first ceil((n - t)/8) bytes of
+ * out are the message's n - t bits, later bytes are as they were. Value 0: none, and nothing is
+ * written; exactly if no word that lo_marker_build makes for this n and a is the received string or
+ * one lost or added bit away from it. Not every string of syndrome a is such a word: the number at
+ * the places 1, 2, 4, .. must not be above n.
+ * Refusals 2; 8 (n not 1 to LO_MAX_MARKER_BITS, a above n, bits not n - 1, n or n + 1); 9 (out
+ * shorter than ceil((n - t)/8), whether there is a message or not). */
+uint64_t lo_marker_read(const uint8_t *received, size_t received_len, size_t bits, size_t n,
+                        size_t a, uint8_t *out, size_t out_len);
 
 /* Where the anchor a of m bits, at offset s of a piece of p bits, is placed in the piece's copy,
  * the q bits of y from start on: at r, counted from start, 0 to q - m, where the copy's m bits

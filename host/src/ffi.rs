@@ -16,6 +16,24 @@ extern "C" {
         out_len: usize,
     ) -> u64;
     fn lo_list(n: usize, a: usize, out: *mut u32, out_len: usize) -> u64;
+    fn lo_marker_build(
+        message: *const u8,
+        message_len: usize,
+        bits: usize,
+        n: usize,
+        a: usize,
+        out: *mut u8,
+        out_len: usize,
+    ) -> u64;
+    fn lo_marker_read(
+        received: *const u8,
+        received_len: usize,
+        bits: usize,
+        n: usize,
+        a: usize,
+        out: *mut u8,
+        out_len: usize,
+    ) -> u64;
     fn lo_anchor(
         y: *const u8,
         y_len: usize,
@@ -94,6 +112,34 @@ impl Ends for Library {
 
     fn list(n: usize, a: usize, out: &mut [u32]) -> u64 {
         unsafe { lo_list(n, a, out.as_mut_ptr(), out.len()) }
+    }
+
+    fn marker_build(message: &[u8], bits: usize, n: usize, a: usize, out: &mut [u8]) -> u64 {
+        unsafe {
+            lo_marker_build(
+                message.as_ptr(),
+                message.len(),
+                bits,
+                n,
+                a,
+                out.as_mut_ptr(),
+                out.len(),
+            )
+        }
+    }
+
+    fn marker_read(received: &[u8], bits: usize, n: usize, a: usize, out: &mut [u8]) -> u64 {
+        unsafe {
+            lo_marker_read(
+                received.as_ptr(),
+                received.len(),
+                bits,
+                n,
+                a,
+                out.as_mut_ptr(),
+                out.len(),
+            )
+        }
     }
 
     fn anchor(

@@ -39,6 +39,7 @@ mod bit_string;
 mod ffi;
 pub mod layout;
 mod listing;
+mod marker;
 pub mod model;
 mod refusal;
 mod saved;
@@ -50,6 +51,7 @@ pub use bit_string::BitString;
 #[cfg(not(feature = "model-only"))]
 pub use ffi::Library;
 pub use listing::{strings_of_syndrome, SyndromeStrings};
+pub use marker::Marker;
 #[cfg(feature = "model-only")]
 pub use model::Model as Library;
 pub use refusal::Refusal;
@@ -60,6 +62,8 @@ pub use synchroniser::{Holder, How, Rebuilder, Row, Settings, Sheet};
 pub const MAX_BITS: usize = 65_536;
 /// The most bits of the strings that are listed by syndrome.
 pub const MAX_LIST_BITS: usize = 20;
+/// The most bits of a marker word.
+pub const MAX_MARKER_BITS: usize = 4_096;
 /// Bytes of a holder's state; its buffer may be longer.
 pub const HOLDER_BYTES: usize = 20;
 /// Bytes of a rebuilder's state; its buffer may be longer.
@@ -106,6 +110,15 @@ pub trait Ends {
     /// Writes to `out` all strings of `n` bits with syndrome `a`, each once, as numbers with the
     /// first bit highest, rising: their count. Later entries stay. Refusals 8, 14.
     fn list(n: usize, a: usize, out: &mut [u32]) -> u64;
+
+    /// Writes to `out` the marker word of `n` bits with syndrome `a` that has this message: 1.
+    /// Later bytes stay. Refusals 2, 8, 15, 9. [`Marker`] has the rule.
+    fn marker_build(message: &[u8], bits: usize, n: usize, a: usize, out: &mut [u8]) -> u64;
+
+    /// Writes to `out` the message of the marker word of `n` bits with syndrome `a` that is
+    /// `received` or one lost or added bit away from it: 1, later bytes stay; or finds that there
+    /// is none: 0, nothing written. Refusals 2, 8, 9.
+    fn marker_read(received: &[u8], bits: usize, n: usize, a: usize, out: &mut [u8]) -> u64;
 
     /// Where the anchor `a` of `m` bits, at offset `s` of a piece of `p` bits, is placed in the
     /// `q` bits of `y` from `start` on: place + 1, or 0 for no place. Refusals 1, 2, 8.
@@ -172,7 +185,7 @@ pub fn pack(result: Result<u64, Refusal>) -> u64 {
 pub fn unpack(packed: u64) -> Result<u64, Refusal> {
     match (packed % 256) as u8 {
         0 => Ok(packed / 256),
-        number => Err(Refusal::from_number(number).expect("refusals are 1 to 10 or 14")),
+        number => Err(Refusal::from_number(number).expect("refusals are 1 to 10, 14 or 15")),
     }
 }
 

@@ -1,14 +1,14 @@
-//! The synchroniser written a second time, in Rust: from the text of document 01 and of 02's CR 1
-//! and CR 12, with the state's layout and soundness as docs/ gives them, and from nothing of the
-//! library's source. The tests compare the two byte for byte; the benchmark takes it as the
+//! The synchroniser written a second time, in Rust: from the text of document 01 and of 02's CR 1,
+//! CR 12 and CR 13, with the state's layout and soundness as docs/ gives them, and from nothing of
+//! the library's source. The tests compare the two byte for byte; the benchmark takes it as the
 //! baseline.
 //!
-//! Sections in 01's order: strings, codes and hash, messages, holder, rebuilder. Each call checks
-//! everything that can turn it down before it writes.
+//! Sections in 01's order: strings, codes and hash, messages, holder, rebuilder; then markers. Each
+//! call checks everything that can turn it down before it writes.
 
 use crate::{
-    pack, sheet_rows, Ends, Refusal, HOLDER_BYTES, MAX_BITS, MAX_LIST_BITS, QUESTION_BYTES,
-    REBUILDER_BYTES, ROW_BYTES,
+    pack, sheet_rows, Ends, Refusal, HOLDER_BYTES, MAX_BITS, MAX_LIST_BITS, MAX_MARKER_BITS,
+    QUESTION_BYTES, REBUILDER_BYTES, ROW_BYTES,
 };
 
 /// The most answers that a holder gives.
@@ -1284,6 +1284,106 @@ fn rebuilder_call(
     state.question().write_to(question)
 }
 
+// Markers
+
+/// t = ceil(log2(n + 1)).
+fn marker_digits(n: usize) -> usize {
+    (n + 1).next_power_of_two().ilog2() as usize
+}
+
+fn marker_limits_kept(n: usize, a: usize) -> bool {
+    (1..=MAX_MARKER_BITS).contains(&n) && a <= n
+}
+
+/// Where the message stands: of each run of its bits the place in the word, the place in the
+/// message, both from 0, and the length. Behind place 2^j, from 1, come 2^j - 1 bits of the message
+/// or as many as are left; before them stand 2^j bits of the word, j + 1 of them at powers of two.
+fn marker_runs(n: usize) -> impl Iterator<Item = (usize, usize, usize)> {
+    (0..marker_digits(n)).map(move |j| {
+        let power = 1 << j;
+        (power, power - (j + 1), (power - 1).min(n - power))
+    })
+}
+
+fn marker_build(
+    message: &[u8],
+    bits: usize,
+    n: usize,
+    a: usize,
+    out: &mut [u8],
+) -> Result<u64, Refusal> {
+    if !legal(message, bits) {
+        return Err(Refusal::BadString);
+    }
+    if !marker_limits_kept(n, a) {
+        return Err(Refusal::OutOfRange);
+    }
+    let digits = marker_digits(n);
+    if bits != n - digits {
+        return Err(Refusal::MessageLength);
+    }
+    let word = out
+        .get_mut(..n.div_ceil(8))
+        .ok_or(Refusal::BufferTooShort)?;
+    word.fill(0);
+    for (place, from, length) in marker_runs(n) {
+        write_bits(word, place, Bits::whole(message, bits).range(from, length));
+    }
+    // The powers' places are zero until here.
+    let sum = weighted_sum(Bits::whole(word, n)) % (n + 1);
+    let number = (a + n + 1 - sum) % (n + 1);
+    for j in 0..digits {
+        write_bit(word, (1 << j) - 1, number >> j & 1 == 1);
+    }
+    Ok(1)
+}
+
+/// The string of syndrome a is made from what was received; it is a built word if the number at
+/// places 1, 2, 4, .. is one that is left modulo n + 1.
+fn marker_read(
+    received: &[u8],
+    bits: usize,
+    n: usize,
+    a: usize,
+    out: &mut [u8],
+) -> Result<u64, Refusal> {
+    if !legal(received, bits) {
+        return Err(Refusal::BadString);
+    }
+    if !marker_limits_kept(n, a) || bits.abs_diff(n) > 1 {
+        return Err(Refusal::OutOfRange);
+    }
+    let digits = marker_digits(n);
+    let message = out
+        .get_mut(..(n - digits).div_ceil(8))
+        .ok_or(Refusal::BufferTooShort)?;
+    let received = Bits::whole(received, bits);
+    let mut word = [0; MAX_MARKER_BITS / 8];
+    if bits == n {
+        if syndrome(received) != a {
+            return Ok(0);
+        }
+        write_bits(&mut word, 0, received);
+    } else {
+        let Some(edit) = repair(received, n, a) else {
+            return Ok(0);
+        };
+        write_edited(&mut word, 0, received, edit);
+    }
+    let word = Bits::whole(&word, n);
+    let digit = |j: usize| (word.get((1 << j) - 1) as usize) << j;
+    if (0..digits).map(digit).sum::<usize>() > n {
+        return Ok(0);
+    }
+    if let Some(last) = message.last_mut() {
+        *last = 0;
+    }
+    for (place, to, length) in marker_runs(n) {
+        write_bits(message, to, word.range(place, length));
+    }
+    Ok(1)
+}
+
 // The C interface
 
 /// The model behind the same interface as the library.
@@ -1340,6 +1440,14 @@ impl Ends for Model {
         };
         front.copy_from_slice(&list);
         pack(Ok(list.len() as u64))
+    }
+
+    fn marker_build(message: &[u8], bits: usize, n: usize, a: usize, out: &mut [u8]) -> u64 {
+        pack(marker_build(message, bits, n, a, out))
+    }
+
+    fn marker_read(received: &[u8], bits: usize, n: usize, a: usize, out: &mut [u8]) -> u64 {
+        pack(marker_read(received, bits, n, a, out))
     }
 
     fn anchor(

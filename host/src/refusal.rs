@@ -29,11 +29,13 @@ pub enum Refusal {
     BadBurst = 10,
     /// 14: a list buffer has fewer entries than there are strings.
     ListTooShort = 14,
+    /// 15: a marker's message has another bit count than its word takes.
+    MessageLength = 15,
 }
 
 impl Refusal {
     /// All refusals, in the order of their numbers.
-    pub const ALL: [Refusal; 11] = [
+    pub const ALL: [Refusal; 12] = [
         Refusal::BadSetting,
         Refusal::BadString,
         Refusal::OutOfTurn,
@@ -45,9 +47,10 @@ impl Refusal {
         Refusal::BufferTooShort,
         Refusal::BadBurst,
         Refusal::ListTooShort,
+        Refusal::MessageLength,
     ];
 
-    /// The refusal's number, 1 to 10 or 14.
+    /// The refusal's number, 1 to 10, 14 or 15.
     pub const fn number(self) -> u8 {
         self as u8
     }
@@ -78,6 +81,7 @@ impl fmt::Display for Refusal {
             Refusal::BufferTooShort => "a buffer or the sheet is too short",
             Refusal::BadBurst => "the number of columns in a burst question is not 2 to 32",
             Refusal::ListTooShort => "the list buffer has fewer entries than there are strings",
+            Refusal::MessageLength => "the message has another bit count than the marker takes",
         };
         write!(f, "refusal {}: {reason}", self.number())
     }

@@ -12,7 +12,7 @@ use common::{decoded, field, message, piece};
 use lunetteorris::layout::*;
 use lunetteorris::{
     pack, sheet_rows, unpack, Ends, How, Library, Refusal, Settings, HOLDER_BYTES, MAX_BITS,
-    MAX_LIST_BITS, QUESTION_BYTES, REBUILDER_BYTES, REPLY_BYTES, ROW_BYTES,
+    MAX_LIST_BITS, MAX_MARKER_BITS, QUESTION_BYTES, REBUILDER_BYTES, REPLY_BYTES, ROW_BYTES,
 };
 
 /// The wrapper's constants under the header's names.
@@ -54,7 +54,8 @@ fn house() -> [(&'static str, u32); 5] {
 /// Each macro of the header that has no parameter, with the wrapper's value.
 fn of_the_wrapper() -> BTreeMap<String, u64> {
     let sizes = constants![
-        MAX_BITS MAX_LIST_BITS HOLDER_BYTES REBUILDER_BYTES ROW_BYTES QUESTION_BYTES REPLY_BYTES
+        MAX_BITS MAX_LIST_BITS MAX_MARKER_BITS
+        HOLDER_BYTES REBUILDER_BYTES ROW_BYTES QUESTION_BYTES REPLY_BYTES
     ];
     let offsets = constants![
         HOLDER_OPENED HOLDER_BITS HOLDER_H HOLDER_KEY HOLDER_ANSWERS
@@ -171,7 +172,8 @@ fn house_settings() {
     }
 }
 
-/// Names and numbers of the refusals and of how, the longest string and the longest in a list.
+/// Names and numbers of the refusals and of how, the longest string, the longest in a list and the
+/// longest marker word.
 #[test]
 fn rattle_source() {
     let strings = source("strings/src/lib.rt");
@@ -184,6 +186,9 @@ fn rattle_source() {
     let lists = source("codes/src/lists.rt");
     let most = number_behind(&lists, "const MAX_LIST_BITS: usize =");
     assert_eq!(most, MAX_LIST_BITS as u64);
+    let markers = source("codes/src/markers.rt");
+    let most = number_behind(&markers, "const MAX_MARKER_BITS: usize =");
+    assert_eq!(most, MAX_MARKER_BITS as u64);
     let steps = source("ends/src/steps.rt");
     for how in How::ALL {
         let number = number_behind(&steps, &format!("How::By{how:?} =>"));
@@ -273,6 +278,32 @@ fn sizes() {
     );
     least(2, Refusal::ListTooShort, |entries| listed(3, entries));
 
+    // The longest marker word, and the buffers for words and for messages.
+    let build = |n: usize, message: &[u8], bytes: usize| {
+        Library::marker_build(message, 8 * message.len(), n, 0, &mut vec![0; bytes])
+    };
+    let read = |n: usize, bytes: usize| {
+        let received = vec![0; n.div_ceil(8)];
+        Library::marker_read(&received, n, n, 0, &mut vec![0; bytes])
+    };
+    assert_eq!(unpack(read(MAX_MARKER_BITS, MAX_MARKER_BITS)), Ok(1));
+    assert_eq!(
+        unpack(read(MAX_MARKER_BITS + 1, MAX_MARKER_BITS)),
+        Err(Refusal::OutOfRange)
+    );
+    least(2, too_short, |bytes| build(12, &[0], bytes));
+    least(3, too_short, |bytes| build(21, &[0; 2], bytes));
+    for (n, message) in [
+        (1, 0),
+        (2, 0),
+        (3, 1),
+        (12, 1),
+        (13, 2),
+        (MAX_MARKER_BITS, 511),
+    ] {
+        least(message, too_short, |bytes| read(n, bytes));
+    }
+
     // String, sheet, question and state of a rebuilder's call.
     for (n, m) in [(0, 8), (1, 8), (7, 8), (8, 8), (129, 64), (MAX_BITS, 9)] {
         let state = started(m, &[], 0);
@@ -344,8 +375,10 @@ fn refusals() {
     assert_eq!(unpack(ask(&[0, 1, 8, 1])), Ok(2));
     let burst = ask(&[4, 0, 3, 1]);
     let list = Library::list(0, 0, &mut []);
+    let message = Library::marker_build(&[], 0, 3, 0, &mut [0]);
     let got = [
         settings, string, turn, truncated, number, kind, trailing, range, too_short, burst, list,
+        message,
     ];
     assert_eq!(got, Refusal::ALL.map(|refusal| refusal.number() as u64));
 }

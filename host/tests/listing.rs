@@ -3,10 +3,7 @@
 
 mod common;
 
-use std::env;
-use std::process::{Command, Output};
-
-use common::Random;
+use common::{printed_by_example, refused_by_example, Random};
 use lunetteorris::model::Model;
 use lunetteorris::{
     pack, strings_of_syndrome, syndrome, unpack, BitString, Ends, Library, Refusal,
@@ -211,37 +208,15 @@ fn iterator() -> Result<(), Refusal> {
     Ok(())
 }
 
-/// The example program, which `cargo test` builds with all tests.
-fn example(arguments: &[&str]) -> Output {
-    let test = env::current_exe().expect("the test has a path");
-    let folder = test.ancestors().nth(2).expect("the build's folder");
-    let program = folder.join("examples").join("list");
-    assert!(
-        program.is_file(),
-        "{} is missing: run `cargo test` without a choice of tests, or build the example",
-        program.display()
-    );
-    let run = Command::new(program).args(arguments).output();
-    run.expect("the example runs")
-}
-
 #[test]
 fn example_program() {
-    let printed = |arguments: &[&str]| {
-        let output = example(arguments);
-        assert!(output.status.success(), "{output:?}");
-        String::from_utf8(output.stdout).expect("the example prints ASCII")
-    };
+    let printed = |arguments: &[&str]| printed_by_example("list", arguments);
     assert_eq!(printed(&["4", "3"]), "2 0010\n11 1011\n12 1100\ncount 3\n");
     assert_eq!(printed(&["0", "0"]), "0 \ncount 1\n");
     assert_eq!(printed(&["20", "0"]).lines().count(), 49_941);
 
     let refused = |arguments: &[&str], status: i32, reason: &str| {
-        let output = example(arguments);
-        assert_eq!(output.status.code(), Some(status), "{output:?}");
-        assert!(output.stdout.is_empty(), "{output:?}");
-        let said = String::from_utf8_lossy(&output.stderr);
-        assert!(said.starts_with(reason), "{said}");
+        refused_by_example("list", arguments, status, reason)
     };
     for arguments in [["21", "0"], ["20", "21"], ["0", "1"]] {
         refused(&arguments, 1, "error: refusal 8: ");

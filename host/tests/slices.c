@@ -19,7 +19,7 @@ static void check(int line, uint64_t result, uint64_t value, unsigned refusal) {
 
 static void empty_slices(void) {
     static const uint8_t one[] = {0x80}, open[] = {0, 1, 8, 1}, size_0[] = {0, 0};
-    static const uint8_t burst_1[] = {4, 0, 1, 1}, burst_2[] = {4, 0, 1, 2};
+    static const uint8_t burst_1[] = {4, 0, 1, 1}, burst_2[] = {4, 0, 1, 2}, ones[] = {0xc0};
     uint8_t out[1], holder[LO_HOLDER_BYTES], rebuilder[LO_REBUILDER_BYTES];
     uint32_t list[1];
     uint8_t question[LO_QUESTION_BYTES], reply[2], sheet[LO_SHEET_BYTES(0, 8)];
@@ -32,6 +32,18 @@ static void empty_slices(void) {
     REFUSES(lo_list(LO_MAX_LIST_BITS + 1, 0, NULL, 0), LO_OUT_OF_RANGE);
     REFUSES(lo_list(0, 0, NULL, 0), LO_LIST_TOO_SHORT);
     GIVES(lo_list(0, 0, list, 1), 1);
+    REFUSES(lo_marker_build(NULL, 0, 1, 0, 0, NULL, 0), LO_BAD_STRING);
+    REFUSES(lo_marker_build(NULL, 0, 0, 0, 0, NULL, 0), LO_OUT_OF_RANGE);
+    REFUSES(lo_marker_build(NULL, 0, 0, LO_MAX_MARKER_BITS + 1, 0, NULL, 0), LO_OUT_OF_RANGE);
+    REFUSES(lo_marker_build(NULL, 0, 0, LO_MAX_MARKER_BITS, 0, NULL, 0), LO_MESSAGE_LENGTH);
+    REFUSES(lo_marker_build(NULL, 0, 0, 2, 1, NULL, 0), LO_BUFFER_TOO_SHORT);
+    GIVES(lo_marker_build(NULL, 0, 0, 2, 1, out, sizeof out), 1);
+    REFUSES(lo_marker_read(NULL, 0, 0, 0, 0, NULL, 0), LO_OUT_OF_RANGE);
+    REFUSES(lo_marker_read(one, 1, 1, 3, 0, NULL, 0), LO_OUT_OF_RANGE);
+    REFUSES(lo_marker_read(one, 1, 2, 3, 0, NULL, 0), LO_BUFFER_TOO_SHORT);
+    GIVES(lo_marker_read(NULL, 0, 0, 1, 1, NULL, 0), 1);
+    GIVES(lo_marker_read(one, 1, 2, 2, 1, NULL, 0), 1);
+    GIVES(lo_marker_read(ones, 1, 2, 2, 0, NULL, 0), 0);
     GIVES(lo_anchor(NULL, 0, 0, 0, 0, 8, 0, 8, 1, one, 1), 0);
 
     REFUSES(lo_holder_fresh(NULL, 0), LO_BUFFER_TOO_SHORT);
@@ -105,8 +117,41 @@ static void shifted_run(size_t shift) {
     }
 }
 
+/* A marker word of 12 bits and syndrome 5, built and read at such addresses: whole, with its last
+ * bit lost, with a bit added behind it. For another syndrome it is none. */
+static void shifted_marker(size_t shift) {
+    static uint8_t messages[8 + 2], words[8 + 3], reads[8 + 2];
+    uint8_t *message = messages + shift, *word = words + shift, *out = reads + shift;
+
+    message[0] = 0xb2;
+    word[2] = out[1] = 0x77;
+    GIVES(lo_marker_build(message, 1, 8, 12, 5, word, 3), 1);
+    /* The message's ones are at places 3, 6, 7 and 11; 5 - 27 is 4 modulo 13: a 1 at place 4. */
+    if (word[0] != 0x36 || word[1] != 0x20 || word[2] != 0x77) {
+        printf("shift %zu: another word\n", shift);
+        failed = 1;
+    }
+    for (size_t bits = 11; bits <= 13; bits++) {
+        out[0] = 0;
+        GIVES(lo_marker_read(word, 2, bits, 12, 5, out, 2), 1);
+        if (out[0] != message[0] || out[1] != 0x77) {
+            printf("shift %zu: another message of %zu bits\n", shift, bits);
+            failed = 1;
+        }
+    }
+    out[0] = 0x66;
+    GIVES(lo_marker_read(word, 2, 12, 12, 6, out, 2), 0);
+    if (out[0] != 0x66 || out[1] != 0x77) {
+        printf("shift %zu: written though there is none\n", shift);
+        failed = 1;
+    }
+}
+
 int main(void) {
     empty_slices();
-    for (size_t shift = 0; shift < 8; shift++) shifted_run(shift);
+    for (size_t shift = 0; shift < 8; shift++) {
+        shifted_run(shift);
+        shifted_marker(shift);
+    }
     return failed;
 }

@@ -25,7 +25,7 @@ fn synchronised(settings: Settings, x: &BitString, y: &BitString) -> Rebuilder {
 #[test]
 fn refusals() {
     let numbers = Refusal::ALL.map(Refusal::number);
-    assert_eq!(numbers, [1, 2, 3, 4, 5, 6, 7, 8, 9, 10, 14]);
+    assert_eq!(numbers, [1, 2, 3, 4, 5, 6, 7, 8, 9, 10, 14, 15]);
     for refusal in Refusal::ALL {
         let number = refusal.number();
         assert_eq!(Refusal::from_number(number), Some(refusal));

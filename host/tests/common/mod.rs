@@ -3,6 +3,9 @@
 
 pub mod c;
 
+use std::env;
+use std::process::{Command, Output};
+
 pub use lunetteorris::layout::{
     HOLDER_ANSWERS, HOLDER_OPENED, REBUILDER_ANSWERED as ANSWERED, REBUILDER_CEILING as CEILING,
     REBUILDER_COUNTED as COUNTED, REBUILDER_H as H, REBUILDER_KEY as KEY, REBUILDER_M as M,
@@ -566,4 +569,36 @@ pub fn started(
     assert_eq!(side, model);
     assert!(rebuilder_sound(&side.state));
     (side, outcome(got).expect("settings and Y are legal"))
+}
+
+// Example programs
+
+/// A run of an example program, which `cargo test` builds with all tests.
+pub fn example(name: &str, arguments: &[&str]) -> Output {
+    let test = env::current_exe().expect("the test has a path");
+    let folder = test.ancestors().nth(2).expect("the build's folder");
+    let program = folder.join("examples").join(name);
+    assert!(
+        program.is_file(),
+        "{} is missing: run `cargo test` without a choice of tests, or build the example",
+        program.display()
+    );
+    let run = Command::new(program).args(arguments).output();
+    run.expect("the example runs")
+}
+
+/// What an example program prints; its status is 0.
+pub fn printed_by_example(name: &str, arguments: &[&str]) -> String {
+    let output = example(name, arguments);
+    assert!(output.status.success(), "{output:?}");
+    String::from_utf8(output.stdout).expect("the example prints ASCII")
+}
+
+/// An example program prints nothing, says this first and ends with this status.
+pub fn refused_by_example(name: &str, arguments: &[&str], status: i32, reason: &str) {
+    let output = example(name, arguments);
+    assert_eq!(output.status.code(), Some(status), "{output:?}");
+    assert!(output.stdout.is_empty(), "{output:?}");
+    let said = String::from_utf8_lossy(&output.stderr);
+    assert!(said.starts_with(reason), "{said}");
 }
