@@ -14,11 +14,13 @@ use std::time::Instant;
 
 use lunetteorris::model::Model;
 use lunetteorris::{
-    pack, sheet_rows, unpack, BitString, Ends, Library, Settings, HOLDER_BYTES, MAX_BITS,
-    MAX_LIST_BITS, QUESTION_BYTES, REBUILDER_BYTES, REPLY_BYTES, ROW_BYTES,
+    pack, sheet_rows, unpack, BitString, Ends, Library, Marker, Settings, HOLDER_BYTES, MAX_BITS,
+    MAX_LIST_BITS, MAX_MARKER_BITS, QUESTION_BYTES, REBUILDER_BYTES, REPLY_BYTES, ROW_BYTES,
 };
 
 const LENGTHS: [usize; 3] = [4_096, 16_384, MAX_BITS];
+/// Bits of marker words.
+const MARKER_LENGTHS: [usize; 3] = [256, 1_024, MAX_MARKER_BITS];
 /// What the copies of whole runs have lost and gained.
 const CHANGES: [Change; 5] = [
     Change::Edits(0),
@@ -42,14 +44,17 @@ fn main() {
     println!("{} cores, {} GB of memory.", cores(), memory());
     println!("Times in microseconds, best of {SAMPLES} samples; buffers not cleared first.");
     let mut growth = Vec::new();
-    let mut worst = print_functions(&FUNCTIONS, "Rust", |name, times| {
+    let mut grows = |name: &str, times: [f64; 3]| {
         growth.push((name.to_string(), times[2] / times[1], None));
-    });
+    };
+    let mut worst = print_functions(&FUNCTIONS, LENGTHS, "Rust", &mut grows);
     worst = worst.max(print_functions(
         &FUNCTIONS_SAME_WAY,
+        LENGTHS,
         "Rust, same way",
         |_, _| (),
     ));
+    worst = worst.max(print_functions(&MARKERS, MARKER_LENGTHS, "Rust", grows));
     println!();
     println!(
         "{:<24}{:>8}{:>12}{:>12}{:>8}{:>14}",
@@ -112,8 +117,9 @@ fn main() {
         growth.push((name, long.0 / short.0, Some(long.1 / short.1)));
     }
     println!();
-    println!("Growth of Rattle's time from 16,384 to 65,536 bits; 4.0 is linear. A run goes over");
-    println!("its pieces again on each level: its growth is to be that of the bits asked about.");
+    println!("Growth of Rattle's time from 16,384 to 65,536 bits, of markers from 1,024 to 4,096;");
+    println!("4.0 is linear. A run goes over its pieces again on each level: its growth is to be");
+    println!("that of the bits asked about.");
     for (name, time, asked) in growth {
         let asked = asked.map_or(String::new(), |asked| format!("  (bits asked {asked:.2})"));
         println!("{name:<24}{time:>8.2}{asked}");
@@ -124,10 +130,11 @@ fn main() {
     print_lists();
 }
 
-/// Prints the functions' times at all lengths, Rust's under this title; `see` gets the library's.
+/// Prints the functions' times at these lengths, Rust's under this title; `see` gets the library's.
 /// Gives the worst ratio.
 fn print_functions(
     functions: &[Function],
+    lengths: [usize; 3],
     title: &str,
     mut see: impl FnMut(&str, [f64; 3]),
 ) -> f64 {
@@ -139,7 +146,7 @@ fn print_functions(
         "function", "bits", "Rattle", "ratio"
     );
     for (name, time) in functions {
-        let times = LENGTHS.map(|bits| {
+        let times = lengths.map(|bits| {
             let (library, rust) = time(bits);
             let ratio = library / rust;
             worst = worst.max(ratio);
@@ -364,6 +371,80 @@ fn time_anchor_zero(bits: usize) -> (f64, f64) {
     let mut anchor = [false; 64];
     anchor[63] = true;
     time_anchor(&packed(&vec![false; bits]), &packed(&anchor))
+}
+
+// Marker words
+
+/// Against the model.
+const MARKERS: [Function; 4] = [
+    ("marker built", time_marker_built),
+    ("marker read, whole", |n| time_marker_read(n, |_| ())),
+    ("marker read, one lost", |n| {
+        time_marker_read(n, |word| _ = word.remove(word.len() / 2))
+    }),
+    ("marker read, one added", |n| {
+        time_marker_read(n, |word| word.insert(word.len() / 2, true))
+    }),
+];
+
+/// A random message, its word of n bits, and the word's syndrome.
+fn marker(n: usize) -> (BitString, BitString, usize) {
+    let a = n / 3;
+    let marker = Marker::new(n, a).expect("n and a are in range");
+    let message = packed(&random_bits(marker.message_bits(), &mut Random(9)));
+    let word = marker.build(&message).expect("the message has its length");
+    (message, word, a)
+}
+
+fn time_marker_built(n: usize) -> (f64, f64) {
+    fn call<E: Ends>(message: &BitString, n: usize, a: usize, out: &mut [u8]) -> u64 {
+        black_box(E::marker_build(
+            black_box(message.as_bytes()),
+            message.bits(),
+            black_box(n),
+            a,
+            black_box(out),
+        ))
+    }
+    let (message, word, a) = marker(n);
+    let mut outs = [vec![0; n.div_ceil(8)], vec![0; n.div_ceil(8)]];
+    let [out, out_model] = &mut outs;
+    assert_eq!(call::<Library>(&message, n, a, out), pack(Ok(1)));
+    assert_eq!(call::<Model>(&message, n, a, out_model), pack(Ok(1)));
+    assert_eq!(
+        (&out[..], &out_model[..]),
+        (word.as_bytes(), word.as_bytes())
+    );
+    compare(
+        || _ = call::<Library>(&message, n, a, out),
+        || _ = call::<Model>(&message, n, a, out_model),
+    )
+}
+
+fn time_marker_read(n: usize, damage: impl Fn(&mut Vec<bool>)) -> (f64, f64) {
+    fn call<E: Ends>(received: &BitString, n: usize, a: usize, out: &mut [u8]) -> u64 {
+        black_box(E::marker_read(
+            black_box(received.as_bytes()),
+            received.bits(),
+            black_box(n),
+            a,
+            black_box(out),
+        ))
+    }
+    let (message, word, a) = marker(n);
+    let mut received: Vec<bool> = word.iter().collect();
+    damage(&mut received);
+    let received = packed(&received);
+    let bytes = message.as_bytes();
+    let mut outs = [vec![0; bytes.len()], vec![0; bytes.len()]];
+    let [out, out_model] = &mut outs;
+    assert_eq!(call::<Library>(&received, n, a, out), pack(Ok(1)));
+    assert_eq!(call::<Model>(&received, n, a, out_model), pack(Ok(1)));
+    assert_eq!((&out[..], &out_model[..]), (bytes, bytes));
+    compare(
+        || _ = call::<Library>(&received, n, a, out),
+        || _ = call::<Model>(&received, n, a, out_model),
+    )
 }
 
 // One run of bits lost or gained: the holder's answer and the rebuilder's call
