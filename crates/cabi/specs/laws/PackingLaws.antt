@@ -18,7 +18,7 @@ use Rattle.ends.specs.declared.anchors.AnchorAnswer.{AnchorAnswer}
 use Rattle.ends.specs.declared.anchors.AnchorAnswer.the-variants.{Placed}
 use Rattle.cabi.specs.Packing.{packed, placeNumber, valueUnit}
 
--- ---- the host's side: the low four bits are the refusal, the rest is the value
+-- ---- the host's side: the low eight bits are the refusal, the rest is the value
 pub refusal-read : (e : ℕ) → e < valueUnit → packed (refusal e) % valueUnit ≡ e
 unfolding packed
 refusal-read e h = omega arith
