@@ -47,7 +47,7 @@ number-snoc (true ∷ l) b =
     omega arith
 number-snoc (false ∷ l) b = number-snoc l b
 
-odd-byte : (v : ℕ) → boolByte (eqb (v % 2) 1) ≡ v % 2
+pub odd-byte : (v : ℕ) → boolByte (eqb (v % 2) 1) ≡ v % 2
 odd-byte v = go (ℕ-discrete (v % 2) 1)
   where
     go : Dec (v % 2 ≡ 1) → boolByte (eqb (v % 2) 1) ≡ v % 2

@@ -17,6 +17,7 @@ use Rattle.codes.specs.Repair.{repairTo}
 use Rattle.codes.specs.laws.RepairLaws.{lack-is, lack-adds, deletion-length, put-in-found, put-in-unique, take-out-found, take-out-unique, repair-put-in, repair-take-out}
 use Rattle.codes.specs.Markers.{isPower, checkBits, messageBits, merged, checkNumber, message, messageSum, wanting, marker, Received, whole, lost, added, nearWord, builtMessage, readMarker}
 use Rattle.codes.specs.code.MarkerBlocks.{powersIn, othersIn}
+use Rattle.codes.specs.laws.ListingLaws.{odd-byte}
 use Rattle.codes.specs.laws.PowerLaws.{power-pos, pow-past, Next, next-one, next-here, next-after, next-on, ceil-log2-enough, ceil-log2-least}
 
 -- ---- words with any number
@@ -65,13 +66,6 @@ message-merged (suc n) k v m h = go (isPower k) refl m (message-merged n (suc k)
     go false e [] ih jh h = absurd (omega arith)
     go false e (b ∷ m) ih jh h = rw e (ap (λ (x : List Bool). b ∷ x) (jh m (omega arith)))
 
-digit-byte : (v : ℕ) → boolByte (eqb (v % 2) 1) ≡ v % 2
-digit-byte v = go (ℕ-discrete (v % 2) 1)
-  where
-    go : Dec (v % 2 ≡ 1) → boolByte (eqb (v % 2) 1) ≡ v % 2
-    go (yes e) = rw (eq-eqb (v % 2) 1 e) (sym e)
-    go (no e) = rw (ne-eqb (v % 2) 1 e) (omega arith)
-
 pub number-merged : (n k v : ℕ) (m : List Bool) → v < 2 ^ powersIn n k → checkNumber k (merged n k v m) ≡ v
 unfolding checkNumber merged powersIn
 number-merged zero k v m h = omega arith
@@ -83,7 +77,7 @@ number-merged (suc n) k v m h = go (isPower k) refl (number-merged n (suc k) (v 
     go true e ih jh h =
         let q = pow-suc 2 (powersIn n (suc k)) in
         let i = ih (omega arith) in
-        rw e (let d = digit-byte v in omega arith)
+        rw e (let d = odd-byte v in omega arith)
     go false e ih jh h = rw e (jh h)
 
 byte-digit : (b : Bool) (x : ℕ) → eqb ((boolByte b + 2 * x) % 2) 1 ≡ b
