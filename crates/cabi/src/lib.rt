@@ -2,6 +2,8 @@
 // it, docs/LAYOUT.md has the layouts. A result is value * 256 + refusal (specs/Packing.antt).
 // A state stands in the first bytes of its slice, which may have more: those are neither read nor written. Bytes that no state has get 3
 // in the calls; too few for a state get 9 in the two functions that make one.
+#![tactic(auto)]
+
 ghost use Rattle.std.specs.Prelude.{◌≡◌, ◌++◌, ◌*◌, ◌≤◌, length, drop};
 ghost use Rattle.codes.specs.Entries.{syndrome_call, hash_call, repair_outcome};
 ghost use Rattle.codes.specs.Listing.{list_outcome};

@@ -3,6 +3,8 @@
 // markers, words with a wanted syndrome that carry a message. `entries`, `lists` and `markers` have what a host calls, on any bytes and
 // numbers; the other modules work on a range of a packed string and require that it lies in the string. Of these the layers above call
 // `syndrome_of`, `syndrome_of_column`, `hash_of` and the trials.
+#![tactic(auto)]
+
 mod columns;
 mod edits;
 mod entries;

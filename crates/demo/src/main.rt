@@ -1,5 +1,7 @@
 // The demonstration program (01, "The demonstration run"): reads the settings, X and Y, runs both ends, and prints every message, the
 // rows and the rebuilt string, or the number of the refusal.
+#![tactic(auto)]
+
 ghost use Rattle.std.specs.Prelude.{◌≤◌, length};
 
 use ends::{

@@ -1,5 +1,7 @@
 // The two ends: the highest of the four layers. Here are the states and the sheet's rows; below, by file: the anchor search,
 // the states' steps and soundness, the holder's call, the rebuilder's start and call, and its call over a lent sheet.
+#![tactic(auto)]
+
 use strings::Settings;
 
 mod anchors;

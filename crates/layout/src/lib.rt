@@ -1,5 +1,7 @@
 // States and sheet as bytes (docs/LAYOUT.md), for the C interface. Reading and writing require that the slice is long enough: an entry
 // point tests it first.
+#![tactic(auto)]
+
 mod cases;
 mod numbers;
 mod sheet;

@@ -1,5 +1,7 @@
 // The text of the demonstration program (01, "The demonstration run"): the lines that it reads, and the bytes of those that it prints.
 // A line is written into a buffer that its caller made long enough for every line of its kind; the put_ functions require it.
+#![tactic(auto)]
+
 ghost use Rattle.std.specs.Prelude.{◌≡◌, [], ◌∷◌, ◌+◌, ◌-◌, ◌*◌, ◌≤◌, ◌<◌, length};
 ghost use Rattle.strings.specs.Bits.{write_bits, range};
 ghost use Rattle.lines.specs.Fields.{blank_byte, field_end, field};

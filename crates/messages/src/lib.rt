@@ -2,6 +2,8 @@
 // Refusals 4 to 7 are all met here. Of 8, what a message decides together with n, h and the length awaited is tested here, behind 7:
 // version, h, key, n above MAX_BITS, a range empty or past n, a syndrome above the length (of its column), a hash of 2^h or more, spare bits
 // set. 10, the number B of a burst question outside 2 to 32, is tested between 7 and 8.
+#![tactic(auto)]
+
 use strings::Refusal;
 
 mod answers;

@@ -2,6 +2,8 @@
 // the syndrome and every repair of each string of up to 8 bits, messages and anchor places at the edges that 01 names, the house settings,
 // and calls that are turned down. The stored file is worked out from document 01 by another program (tools/samples.py), but for its last
 // five lines, which stand there as text: the house settings, the calls that are turned down and one repair that is done.
+#![tactic(auto)]
+
 ghost use Rattle.std.specs.Prelude.{◌≤◌, ◌<◌};
 
 use codes::{NumberAnswer, RepairAnswer};

@@ -1,5 +1,7 @@
 // Bit strings packed in bytes, and the settings: the lowest of the four layers. First bit in the most significant place. Functions on a bit
 // or a range require that it lies in the string: the layers above know this, and a test at each bit would be for nothing.
+#![tactic(auto)]
+
 ghost use Rattle.std.specs.Prelude.{◌≡◌, true, false, ◌+◌, ◌*◌, ◌≤◌, ◌<◌, length};
 ghost use Rattle.strings.specs.Bits.{bit_at, range, set_bit, write_bits, cleared, Part, Eight};
 ghost use Rattle.strings.specs.StringRule.{string_rule};
