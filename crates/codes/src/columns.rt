@@ -115,7 +115,7 @@ pub fn syndrome_of_column(s: &[u8], start: usize, len: usize, b: usize, j: usize
 }
 
 // The repair of one column: the place of its edit in the string, and the bit that is put in, if one is.
-#[derive(Drop)]
+#[derive(Clone, Copy)]
 struct ColumnRepair {
     found: bool,
     place: usize,

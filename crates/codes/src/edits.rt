@@ -7,14 +7,14 @@ ghost use Rattle.codes.specs.Repair.{without, insert_at};
 ghost use Rattle.codes.specs.code.Edits.{edited, Fits};
 
 // What is done to a range: a bit is put in at a place, or the bit at a place is taken out.
-#[derive(Drop)]
+#[derive(Clone, Copy)]
 pub enum Edit {
     Put(usize, bool),
     Take(usize),
 }
 
 // The edit that gives the wanted syndrome, if there is one.
-#[derive(Drop)]
+#[derive(Clone, Copy)]
 pub enum Repair {
     Found(Edit),
     Nothing,

@@ -7,13 +7,13 @@ use crate::edits::Repair;
 use strings::Refusal;
 
 // A number, or why the call is turned down.
-#[derive(Drop)]
+#[derive(Clone, Copy)]
 pub enum NumberAnswer {
     Value(u32),
     Refused(Refusal),
 }
 
-#[derive(Drop)]
+#[derive(Clone, Copy)]
 pub enum RepairAnswer {
     // The first bytes of the buffer are the repaired string; for a received marker, its message.
     Done,

@@ -21,7 +21,7 @@ const MAX_MARKER_BITS: usize = 4096;
 // The bytes that they take.
 const MAX_MARKER_BYTES: usize = MAX_MARKER_BITS / 8;
 
-#[derive(Drop)]
+#[derive(Clone, Copy)]
 pub enum BuildAnswer {
     // The first bytes of the buffer are the word.
     Built,

@@ -22,7 +22,7 @@ pub fn low_bits(v: u32, h: u32) -> u32
 }
 
 // A hash under way: the whole rows of the set bits taken together, and the row of the last bit. It is cut once, at the end.
-#[derive(Drop)]
+#[derive(Clone, Copy)]
 pub struct Hashing {
     pub sum: u32,
     pub row: u32,

@@ -11,7 +11,7 @@ use crate::rows::Hashing;
 
 // The repairs of all columns: of each the place of its edit in the piece, and the bit that is put in, if one is. Where a column has no
 // repair, not all have one, and the places and bits say nothing.
-#[derive(Drop)]
+#[derive(Clone, Copy)]
 pub struct RunRepair {
     pub all: bool,
     pub places: [usize; 32],
@@ -83,7 +83,7 @@ fn next_column(b: usize, j: usize) -> usize
 }
 
 // The least and the greatest of the places of the edits.
-#[derive(Drop)]
+#[derive(Clone, Copy)]
 struct Span {
     low: usize,
     high: usize,
@@ -91,7 +91,7 @@ struct Span {
 
 // The bits of the repaired range from bit `from` to bit `behind`. Those before and behind are the range's, all of them the same number of
 // bits away, so that they are hashed and copied by bytes. After one run lost or gained there is little between.
-#[derive(Drop)]
+#[derive(Clone, Copy)]
 struct Middle {
     from: usize,
     behind: usize,

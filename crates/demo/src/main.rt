@@ -12,7 +12,7 @@ use lines::{SettingsRead, StringRead};
 use strings::{MOST_BITS, Refusal, Settings};
 
 // How far the run is: a question of so many bytes waits for its answer, X is rebuilt, or a call was turned down.
-#[derive(Drop)]
+#[derive(Clone, Copy)]
 enum Progress {
     Asking(usize),
     Rebuilt,
@@ -20,7 +20,7 @@ enum Progress {
 }
 
 // How far the run is, and both ends' states.
-#[derive(Drop)]
+#[derive(Clone, Copy)]
 struct Session {
     progress: Progress,
     holder: Holder,
@@ -28,7 +28,7 @@ struct Session {
 }
 
 // The course of a run: the session, and the sheet of 16,385 rows, enough for any run: 2 * (65536 / 8) + 1.
-#[derive(Drop)]
+#[derive(Clone, Copy)]
 struct Course {
     session: Session,
     sheet: [Row; 16385],

@@ -9,14 +9,14 @@ ghost use Rattle.ends.specs.code.Window.{Searching, Small, window_start, window_
 use strings::Refusal;
 
 // Where an anchor is placed.
-#[derive(Drop)]
+#[derive(Clone, Copy)]
 pub enum Place {
     At(usize),
     Nowhere,
 }
 
 // A host's answer: the place, that there is none, or why the call is turned down.
-#[derive(Drop)]
+#[derive(Clone, Copy)]
 pub enum AnchorAnswer {
     Placed(usize),
     NoPlace,

@@ -13,7 +13,7 @@ use crate::{Holder, MOST_ANSWERS};
 use messages::{Kind, KindRead, Question, QuestionRead, WriteResult};
 use strings::{Refusal, both};
 
-#[derive(Drop)]
+#[derive(Clone, Copy)]
 pub enum HolderAnswer {
     // The reply begins with the answer, of so many bytes.
     Replied(usize),
@@ -22,7 +22,7 @@ pub enum HolderAnswer {
 }
 
 // The answer, and the state for the next call.
-#[derive(Drop)]
+#[derive(Clone, Copy)]
 pub struct HolderOut {
     pub answer: HolderAnswer,
     pub state: Holder,

@@ -26,7 +26,7 @@ const MOST_ANSWERS: u32 = 1000000;
 const LONGEST_NUMBERS: u32 = 102;
 
 // How a row's piece was settled; specs/Segments.antt has the numbers, 1 to 6 in this order.
-#[derive(Drop)]
+#[derive(Clone, Copy)]
 pub enum How {
     ByHash,
     ByPutIn,
@@ -38,7 +38,7 @@ pub enum How {
 }
 
 // A row of the sheet: start and length in X, and the number of how.
-#[derive(Drop)]
+#[derive(Clone, Copy)]
 pub struct Row {
     pub start: u32,
     pub len: u32,
@@ -46,7 +46,7 @@ pub struct Row {
 }
 
 // A waiting piece: p bits of X from x on, paired with q bits of Y from y on.
-#[derive(Drop)]
+#[derive(Clone, Copy)]
 pub struct Piece {
     pub x: u32,
     pub p: u32,
@@ -63,7 +63,7 @@ pub const NO_PIECE: Piece = Piece {
 };
 
 // Step 4's anchors, in the order in which they are tried.
-#[derive(Drop)]
+#[derive(Clone, Copy)]
 pub enum Attempt {
     First,
     Second,
@@ -72,7 +72,7 @@ pub enum Attempt {
 
 // What is asked of a waiting piece: its hash (step 2); its syndrome, to put a bit in or to take one out (step 3); the bits of an anchor,
 // or all its bits (step 4).
-#[derive(Drop)]
+#[derive(Clone, Copy)]
 pub enum Stage {
     Hashing,
     PuttingIn,
@@ -84,7 +84,7 @@ pub enum Stage {
 }
 
 // What is awaited: the opening's answer; one for the leftmost waiting piece, or nothing if none waits; bits 0, n.
-#[derive(Drop)]
+#[derive(Clone, Copy)]
 pub enum Phase {
     AtOpening,
     AtPieces,
@@ -92,7 +92,7 @@ pub enum Phase {
 }
 
 // The rebuilder's state (docs/STATE.md).
-#[derive(Drop)]
+#[derive(Clone, Copy)]
 pub struct Rebuilder {
     pub settings: Settings,
     // Y's bit count.
@@ -112,7 +112,7 @@ pub struct Rebuilder {
 }
 
 // What a call of the rebuilder does to the sheet: nothing; a row at an index; or one row in place of the used ones.
-#[derive(Drop)]
+#[derive(Clone, Copy)]
 pub enum SheetChange {
     NoRow,
     AddRow(u32, Row),
@@ -120,7 +120,7 @@ pub enum SheetChange {
 }
 
 // The holder's state: whether it is opened, and from the opening on X's bit count, h, key and the answers given.
-#[derive(Drop)]
+#[derive(Clone, Copy)]
 pub struct Holder {
     pub opened: bool,
     pub bits: u32,

@@ -19,21 +19,21 @@ use strings::{Refusal, Settings, both};
 const QUESTION_BYTES: usize = 8;
 
 // What a start gives: the length of the opening question, or why it is turned down.
-#[derive(Drop)]
+#[derive(Clone, Copy)]
 pub enum StartAnswer {
     Begun(usize),
     NotBegun(Refusal),
 }
 
 // Beside it the first state; of a start that is turned down, one of zeros.
-#[derive(Drop)]
+#[derive(Clone, Copy)]
 pub struct StartOut {
     pub answer: StartAnswer,
     pub state: Rebuilder,
 }
 
 // What a call gives: the length of the next question, the finish, or why it is turned down.
-#[derive(Drop)]
+#[derive(Clone, Copy)]
 pub enum RebuilderAnswer {
     Asks(usize),
     Finished,
@@ -41,7 +41,7 @@ pub enum RebuilderAnswer {
 }
 
 // Beside it the next state, what happens to the sheet, the questions answered and the counted bytes.
-#[derive(Drop)]
+#[derive(Clone, Copy)]
 pub struct RebuilderOut {
     pub answer: RebuilderAnswer,
     pub state: Rebuilder,

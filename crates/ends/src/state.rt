@@ -13,7 +13,7 @@ use messages::Question;
 use strings::{Settings, both};
 
 // What comes next: a question, or nothing after the finish.
-#[derive(Drop)]
+#[derive(Clone, Copy)]
 pub enum Plan {
     Ask(Question),
     Finished,

@@ -17,21 +17,21 @@ use strings::Settings;
 const LONGEST_LINE: usize = strings::MAX_BITS;
 
 // Where a field of a byte list stands: its first index and the index behind its last; or there is no such field.
-#[derive(Drop)]
+#[derive(Clone, Copy)]
 pub enum FieldFound {
     Spans(usize, usize),
     Missing,
 }
 
 // What a group of bytes is as a decimal number below 2^32.
-#[derive(Drop)]
+#[derive(Clone, Copy)]
 pub enum Decimal {
     Value(u32),
     NotDecimal,
 }
 
 // What the settings line says; or it is of another form.
-#[derive(Drop)]
+#[derive(Clone, Copy)]
 pub enum SettingsRead {
     Parsed(Settings),
     Malformed,
@@ -39,7 +39,7 @@ pub enum SettingsRead {
 
 // What reading a line of X or Y into a lent buffer gave: the bit count of the string that was packed; or the buffer was left alone,
 // since the line is of another form, or the buffer is too short.
-#[derive(Drop)]
+#[derive(Clone, Copy)]
 pub enum StringRead {
     Packed(usize),
     NotBits,

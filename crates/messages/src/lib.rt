@@ -20,7 +20,7 @@ pub use kinds::read_kind;
 pub use questions::{read_fields, write_question};
 
 // The kinds of 01, "Messages", and 02, CR 1; specs/Kinds.antt has their numbers, 0 to 4.
-#[derive(Drop)]
+#[derive(Clone, Copy)]
 pub enum Kind {
     Open,
     Hash,
@@ -30,14 +30,14 @@ pub enum Kind {
 }
 
 // What reading the kind of a question gave: a known kind and the position behind it, or why not.
-#[derive(Drop)]
+#[derive(Clone, Copy)]
 pub enum KindRead {
     Known(Kind, usize),
     NoKind(Refusal),
 }
 
 // A question: of an opening h and key (its version is 1), of the others start and length, of a burst also the number B of columns.
-#[derive(Drop)]
+#[derive(Clone, Copy)]
 pub enum Question {
     AskOpen(u32, u32),
     AskHash(u32, u32),
@@ -46,7 +46,7 @@ pub enum Question {
     AskBurst(u32, u32, u32),
 }
 
-#[derive(Drop)]
+#[derive(Clone, Copy)]
 pub enum QuestionRead {
     Asked(Question),
     NoQuestion(Refusal),
@@ -54,7 +54,7 @@ pub enum QuestionRead {
 
 // What reading an answer gave: n; the hash; syndrome and hash; the index of the byte at which the bits begin; of a burst's answer the hash,
 // whose syndromes `burst_syndromes` gives; or why not.
-#[derive(Drop)]
+#[derive(Clone, Copy)]
 pub enum AnswerRead {
     IsSize(u32),
     IsHash(u32),
@@ -65,7 +65,7 @@ pub enum AnswerRead {
 }
 
 // What writing a message into a lent buffer gave: the message's length, or that the buffer is too short and was left alone.
-#[derive(Drop)]
+#[derive(Clone, Copy)]
 pub enum WriteResult {
     Written(usize),
     TooShort,

@@ -6,7 +6,7 @@ ghost use Rattle.messages.specs.Numbers.{number, next_byte, number_at, said_numb
 use strings::{Refusal, wide};
 
 // What reading a number at a position gave: its value and the position behind it, or why not.
-#[derive(Drop)]
+#[derive(Clone, Copy)]
 pub enum NumberRead {
     Value(u32, usize),
     NoNumber(Refusal),

@@ -10,20 +10,20 @@ use crate::numbers::{NumberRead, read_number};
 use strings::Refusal;
 
 // What reading two numbers gave, and three: the numbers and the position behind the last, or why not.
-#[derive(Drop)]
+#[derive(Clone, Copy)]
 pub enum TwoRead {
     Two(u32, u32, usize),
     NoTwo(Refusal),
 }
 
-#[derive(Drop)]
+#[derive(Clone, Copy)]
 pub enum ThreeRead {
     Three(u32, u32, u32, usize),
     NoThree(Refusal),
 }
 
 // What three readings gave, each a number or why there is none.
-#[derive(Drop)]
+#[derive(Clone, Copy)]
 pub struct Readings {
     pub first: NumberRead,
     pub second: NumberRead,
@@ -146,7 +146,7 @@ pub fn three_numbers(s: &[u8], at: usize) -> ThreeRead
 
 // The k numbers from position `at` on, one behind the other: they are the first k of `numbers` if `last` is a number, and then this says the position
 // behind them; `last` is why not if one of them is none.
-#[derive(Drop)]
+#[derive(Clone, Copy)]
 pub struct ManyRead {
     pub numbers: [u32; 32],
     pub last: NumberRead,

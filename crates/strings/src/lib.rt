@@ -20,7 +20,7 @@ pub const MAX_BITS: usize = 65536;
 pub const MOST_BITS: u32 = MAX_BITS as u32;
 
 // Why a call is turned down (01, "Why a call is turned down", and 02). specs/Refusals.antt has the numbers; they rise in this order.
-#[derive(Drop)]
+#[derive(Clone, Copy)]
 pub enum Refusal {
     // A setting handed in is outside its limits.
     BadSetting,

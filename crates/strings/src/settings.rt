@@ -3,7 +3,7 @@ ghost use Rattle.std.specs.Prelude.{◌≡◌, true, false, ◌&&◌};
 ghost use Rattle.strings.specs.SettingLimits.{between, anchor_limits, hash_limits, factor_limits, key_limits, house_settings, within_limits};
 
 // 01, "Strings and settings": anchor m, hash h, window factor k, key, ceiling.
-#[derive(Drop)]
+#[derive(Clone, Copy)]
 pub struct Settings {
     pub m: u32,
     pub h: u32,

@@ -1,0 +1,12 @@
+-- `codes::find_put` meets its contract. Assumes nothing.
+use Rattle.strings.specs.Bits.{range}
+use Rattle.strings.specs.laws.RangeLaws.{range_length}
+use Rattle.codes.specs.laws.EditLaws.{put-none}
+use Rattle.codes.proofs.places.find_put.Goals as goal
+
+pub returns-then-len-a : goal.returns-then-len-a
+returns-then-len-a c =     let args = c.args in
+    (put-none args.a (range args.s.now args.start args.len) args.len (range_length _ _ _) c.if-len-a.true, tt)
+
+pub returns : goal.returns
+returns c = c.put_edit.ensures
