@@ -6,19 +6,19 @@ use borrow.Author.Rules.{rules}
 use Rattle.codes.proofs.columns.column_repair.Goals as goal
 
 pub overflow_mul-result : goal.overflow_mul-result
-overflow_mul-result c =     let f = fits-as c.args.e _ c.args.m c.requires.fits c.in-Put.is in
+overflow_mul-result c = let f = fits-as c.args.e _ c.args.m c.requires.fits c.in-Put.is in
     let q = place-below c.in-Put.k c.args.b (let m = c.requires.m_le_max_bits in omega arith) c.requires.b_bound in search rules
 
 pub overflow_add-result : goal.overflow_add-result
-overflow_add-result c =     let f = fits-as c.args.e _ c.args.m c.requires.fits c.in-Put.is in
+overflow_add-result c = let f = fits-as c.args.e _ c.args.m c.requires.fits c.in-Put.is in
     let q = place-below c.in-Put.k c.args.b (let m = c.requires.m_le_max_bits in omega arith) c.requires.b_bound in search rules
 
 pub overflow_mul-result-in-Take : goal.overflow_mul-result-in-Take
-overflow_mul-result-in-Take c =     let f = fits-as c.args.e _ c.args.m c.requires.fits c.in-Take.is in
+overflow_mul-result-in-Take c = let f = fits-as c.args.e _ c.args.m c.requires.fits c.in-Take.is in
     let q = place-below c.in-Take.k c.args.b (let m = c.requires.m_le_max_bits in omega arith) c.requires.b_bound in search rules
 
 pub overflow_add-result-in-Take : goal.overflow_add-result-in-Take
-overflow_add-result-in-Take c =     let f = fits-as c.args.e _ c.args.m c.requires.fits c.in-Take.is in
+overflow_add-result-in-Take c = let f = fits-as c.args.e _ c.args.m c.requires.fits c.in-Take.is in
     let q = place-below c.in-Take.k c.args.b (let m = c.requires.m_le_max_bits in omega arith) c.requires.b_bound in search rules
 
 pub returns-in-Put : goal.returns-in-Put

@@ -8,14 +8,14 @@ use Rattle.codes.specs.laws.ColumnByteLaws.{bytes-within, column-part, column-le
 use Rattle.codes.proofs.columns.copy_column.Goals as goal
 
 pub copy_groups-requires : goal.copy_groups-requires
-copy_groups-requires c =     let top = c.before.before.before.before in
+copy_groups-requires c = let top = c.before.before.before.before in
     let long = c.column_length-bytes in
     let within = bytes-within top.args.b top.args.j top.args.len long.result top.requires.j_lt_b long.ensures in
     let there = top.requires.part_2.there in
     let e = long.ensures in record { strided_part = column-part top.args.s.now top.args.start top.args.len top.args.b top.args.j (8 * (long.result / 8)) top.requires.part within; count_in_bounds = omega arith }
 
 pub overflow_mul-done-2 : goal.overflow_mul-done-2
-overflow_mul-done-2 c =     let top = c.before.before.before.before.before.before.before in
+overflow_mul-done-2 c = let top = c.before.before.before.before.before.before.before in
     let long = c.column_length-bytes in
     let within = bytes-within top.args.b top.args.j top.args.len long.result top.requires.j_lt_b long.ensures in
     let few = top.requires.part.few in
@@ -23,7 +23,7 @@ overflow_mul-done-2 c =     let top = c.before.before.before.before.before.befor
     omega arith
 
 pub overflow_add-j : goal.overflow_add-j
-overflow_add-j c =     let top = c.before.before.before.before.before.before.before in
+overflow_add-j c = let top = c.before.before.before.before.before.before.before in
     let long = c.column_length-bytes in
     let within = bytes-within top.args.b top.args.j top.args.len long.result top.requires.j_lt_b long.ensures in
     let few = top.requires.part.few in
@@ -31,7 +31,7 @@ overflow_add-j c =     let top = c.before.before.before.before.before.before.bef
     omega arith
 
 pub copy_singly-requires : goal.copy_singly-requires
-copy_singly-requires c =     let top = c.before.before.before.before.before.before.before.before in
+copy_singly-requires c = let top = c.before.before.before.before.before.before.before.before in
     let long = c.column_length-bytes in
     let within = bytes-within top.args.b top.args.j top.args.len long.result top.requires.j_lt_b long.ensures in
     let small = top.requires.j_lt_b in
@@ -42,7 +42,7 @@ copy_singly-requires c =     let top = c.before.before.before.before.before.befo
     let n = ap length c.copy_groups.ensures ∙ length-write_bits top.args.to.now 0 _ in record { part = top.requires.part; le_b = (omega arith, top.requires.b_bound); part_2 = record { there = omega arith; few = omega arith } }
 
 pub returns : goal.returns
-returns c =     let top = c.before.before.before.before.before.before.before.before.before.before.before in
+returns c = let top = c.before.before.before.before.before.before.before.before.before.before.before in
     let long = c.column_length-bytes in
     let within = bytes-within top.args.b top.args.j top.args.len long.result top.requires.j_lt_b long.ensures in
     let small = top.requires.j_lt_b in

@@ -13,21 +13,21 @@ use Rattle.codes.specs.laws.ColumnEditLaws.{all_found, none_found}
 use Rattle.codes.proofs.columns.try_run.Goals as goal
 
 pub find_columns-run-requires : goal.find_columns-run-requires
-find_columns-run-requires c =     let pre = c.requires in
-    (pre.0, ((let few = pre.1.0.few in omega arith), (pre.1.1.0, pre.1.1.1.0)))
+find_columns-run-requires c = let pre = c.requires in
+    record { part = pre.part; n_le_max_bits = (let few = pre.part_2.few in omega arith); run_apart = pre.run_apart; le_b = pre.le_b }
 
 pub returns-then-not-run : goal.returns-then-not-run
-returns-then-not-run c =     let args = c.args in
+returns-then-not-run c = let args = c.args in
     let run = c.find_columns-run in
     let is = none_found run.result.all _ _ run.ensures.bits_value (not-true _ c.if-not-run.true) in
     rw (is, agreeing-none args.h args.key args.v) refl
 
 pub hash_woven-hashed-requires : goal.hash_woven-hashed-requires
-hash_woven-hashed-requires c =     let pre = c.requires in
-    (pre.0, ((let few = pre.1.0.few in omega arith), (pre.1.1.0, (pre.1.1.1.0, (c.find_columns-run.ensures.placed, pre.1.1.1.1)))))
+hash_woven-hashed-requires c = let pre = c.requires in
+    record { part = pre.part; n_le_max_bits = (let few = pre.part_2.few in omega arith); run_apart = pre.run_apart; le_b = pre.le_b; placed = c.find_columns-run.ensures.placed; h_bound = pre.h_bound }
 
 pub returns-then-hashed-v : goal.returns-then-hashed-v
-returns-then-hashed-v c =     let args = c.args in
+returns-then-hashed-v c = let args = c.args in
     let run = c.find_columns-run in
     let z = woven (range args.s.now args.start args.len) args.n args.b run.result.places run.result.bits in
     let is = all_found run.result.all z _ run.ensures.bits_value (not-false _ c.if-not-run.false) in
@@ -35,10 +35,10 @@ returns-then-hashed-v c =     let args = c.args in
     ∙ ap (λ (o : Option (List Bool)). tried_at args.to.now args.at (agreeing args.h args.key args.v o)) (sym is)
 
 pub copy_woven-requires : goal.copy_woven-requires
-copy_woven-requires c =     let pre = c.requires in record { part = pre.0; part_2 = pre.1.0; run_apart = pre.1.1.0; le_b = pre.1.1.1.0; placed = c.find_columns-run.ensures.placed }
+copy_woven-requires c = let pre = c.requires in record { part = pre.part; part_2 = pre.part_2; run_apart = pre.run_apart; le_b = pre.le_b; placed = c.find_columns-run.ensures.placed }
 
 pub returns : goal.returns
-returns c =     let args = c.args in
+returns c = let args = c.args in
     let run = c.find_columns-run in
     let z = woven (range args.s.now args.start args.len) args.n args.b run.result.places run.result.bits in
     let is = all_found run.result.all z _ run.ensures.bits_value (not-false _ c.if-not-run.false) in

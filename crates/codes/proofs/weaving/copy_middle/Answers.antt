@@ -11,37 +11,37 @@ use borrow.Author.Rules.{rules}
 use Rattle.codes.proofs.weaving.copy_middle.Goals as goal
 
 pub loop-i-init : goal.loop-i-init
-loop-i-init c =     let args = c.args in
-    (omega arith, c.requires.from_le_behind.0, c.column_of-j.ensures.upper_bound, c.column_of-j.ensures.value, refl, ap (λ (p : ℕ). write_bits args.to.now p (woven_from (range args.s.now args.start args.len) args.n args.b args.t6.places args.t6.bits args.from (args.behind - args.from))) (let e : args.at + (args.from - args.from) ≡ args.at = omega arith in e))
+loop-i-init c = let args = c.args in
+    (omega arith, c.requires.from_le_behind.0, c.column_of-j.ensures.upper_bound, c.column_of-j.ensures.value, refl, ap (λ (p : ℕ). write_bits args.to.now p (woven_from (range args.s.now args.start args.len) args.n args.b args.run.places args.run.bits args.from (args.behind - args.from))) (let e : args.at + (args.from - args.from) ≡ args.at = omega arith in e))
 
 pub offset_bounds-run-j : goal.offset_bounds-run-j
-offset_bounds-run-j c =     let h = c.requires.le_b.1 in
+offset_bounds-run-j c = let h = c.requires.le_b.1 in
     let j = c.loop-i.invariant.2 in search rules
 
 pub bounds-run-j : goal.bounds-run-j
-bounds-run-j c =     let h = c.requires.le_b.1 in
+bounds-run-j c = let h = c.requires.le_b.1 in
     let j = c.loop-i.invariant.2 in omega arith
 
 pub bounds-run-j-in-loop-i : goal.bounds-run-j-in-loop-i
-bounds-run-j-in-loop-i c =     let h = c.requires.le_b.1 in
+bounds-run-j-in-loop-i c = let h = c.requires.le_b.1 in
     let j = c.loop-i.invariant.2 in omega arith
 
 pub woven_bit-x-requires : goal.woven_bit-x-requires
-woven_bit-x-requires c =     let pre = c.requires in
+woven_bit-x-requires c = let pre = c.requires in
     let t = c.loop-i-test.true in
-    let e = pre.1.1.1.1.1.1 in
-    (pre.0, (pre.1.1.0, (pre.1.1.1.0.1, (omega arith, pre.1.1.1.1.0 c.loop-i.j))))
+    let e = pre.from_le_behind.1 in
+    record { part = pre.part; run_apart = pre.run_apart; b_bound = pre.le_b.1; i_lt_n = omega arith; p_bound = pre.placed c.loop-i.j }
 
 pub overflow_sub-i : goal.overflow_sub-i
-overflow_sub-i c =     let a = c.loop-i.invariant.0 in search rules
+overflow_sub-i c = let a = c.loop-i.invariant.0 in search rules
 
 pub overflow_add-at : goal.overflow_add-at
-overflow_add-at c =     let few = c.requires.part_2.few in
+overflow_add-at c = let few = c.requires.part_2.few in
     let t = c.loop-i-test.true in
     let a = c.loop-i.invariant.0 in search rules
 
 pub set_bit-requires : goal.set_bit-requires
-set_bit-requires c =     let there = c.requires.part_2.there in
+set_bit-requires c = let there = c.requires.part_2.there in
     let t = c.loop-i-test.true in
     let a = c.loop-i.invariant.0 in
     let l = c.loop-i.invariant.4 in omega arith
@@ -50,15 +50,15 @@ pub next_column-j-requires : goal.next_column-j-requires
 next_column-j-requires c = c.loop-i.invariant.2
 
 pub overflow_add-i : goal.overflow_add-i
-overflow_add-i c =     let few = c.requires.from_le_behind.2 in
+overflow_add-i c = let few = c.requires.from_le_behind.2 in
     let e = c.requires.from_le_behind.1 in
     let t = c.loop-i-test.true in search rules
 
 pub loop-i-smaller : goal.loop-i-smaller
-loop-i-smaller c =     let t = c.loop-i-test.true in omega arith
+loop-i-smaller c = let t = c.loop-i-test.true in omega arith
 
 pub loop-i-preserved : goal.loop-i-preserved
-loop-i-preserved c =     let args = c.args in
+loop-i-preserved c = let args = c.args in
     let loop = c.loop-i in
     let step = next-column args.b loop.i loop.j loop.invariant.2 loop.invariant.3 in
     let below = next-below args.b loop.i loop.j loop.invariant.2 loop.invariant.3 in
@@ -70,15 +70,15 @@ loop-i-preserved c =     let args = c.args in
       omega arith,
       e ∙ step,
       ap length c.set_bit.ensures ∙ length-set_bit loop.to (args.at + (loop.i - args.from)) x ∙ loop.invariant.4,
-      woven-copied (range args.s.now args.start args.len) args.n args.b args.t6.places args.t6.bits loop.to _ _ (args.at + (loop.i + 1 - args.from)) (args.at + (loop.i - args.from)) args.behind loop.i loop.j x c.loop-i-test.true loop.invariant.3 c.woven_bit-x.ensures c.set_bit.ensures (omega arith) loop.invariant.5,
+      woven-copied (range args.s.now args.start args.len) args.n args.b args.run.places args.run.bits loop.to _ _ (args.at + (loop.i + 1 - args.from)) (args.at + (loop.i - args.from)) args.behind loop.i loop.j x c.loop-i-test.true loop.invariant.3 c.woven_bit-x.ensures c.set_bit.ensures (omega arith) loop.invariant.5,
     )
 
 pub shape_of-to : goal.shape_of-to
 shape_of-to c = c.loop-i.invariant.4
 
 pub returns : goal.returns
-returns c =     let args = c.args in
+returns c = let args = c.args in
     let loop = c.loop-i in
     sym (write-none loop.to (args.at + (loop.i - args.from)))
-    ∙ ap (write_bits loop.to (args.at + (loop.i - args.from))) (sym (woven-last (range args.s.now args.start args.len) args.n args.b args.t6.places args.t6.bits args.behind loop.i c.loop-i-test.false))
+    ∙ ap (write_bits loop.to (args.at + (loop.i - args.from))) (sym (woven-last (range args.s.now args.start args.len) args.n args.b args.run.places args.run.bits args.behind loop.i c.loop-i-test.false))
     ∙ loop.invariant.5

@@ -7,51 +7,51 @@ use borrow.Author.Rules.{rules}
 use Rattle.codes.proofs.weaving.hash_woven.Goals as goal
 
 pub hash_on-before-requires : goal.hash_on-before-requires
-hash_on-before-requires c =     let args = c.args in
+hash_on-before-requires c = let args = c.args in
     let pre = c.requires in
     let m = c.middle_of-m in
-    let pos : 1 ≤ args.b = (let h = pre.1.1.1.0.0 in omega arith) in
-    let w = before-within args.s.now args.start args.len args.n args.b args.run.places args.run.bits m.result.from m.result.behind pos pre.1.1.0 pre.1.1.1.1.0 m.ensures in
-    let there = pre.0.there in
-    let few = pre.0.few in record { there = omega arith; few = omega arith }
+    let pos : 1 ≤ args.b = (let h = pre.le_b.0 in omega arith) in
+    let w = before-within args.s.now args.start args.len args.n args.b args.run.places args.run.bits m.result.from m.result.behind pos pre.run_apart pre.placed m.ensures in
+    let there = pre.part.there in
+    let few = pre.part.few in record { there = omega arith; few = omega arith }
 
 pub hash_middle-here-requires : goal.hash_middle-here-requires
-hash_middle-here-requires c =     let pre = c.requires in
+hash_middle-here-requires c = let pre = c.requires in
     let m = c.middle_of-m.ensures in
-    (pre.0, (pre.1.0, (pre.1.1.0, (pre.1.1.1.0, (pre.1.1.1.1.0, (m.order, m.end))))))
+    record { part = pre.part; n_le_max_bits = pre.n_le_max_bits; run_apart = pre.run_apart; le_b = pre.le_b; placed = pre.placed; from_le_behind = (m.order, m.end) }
 
 pub behind_place-p-requires : goal.behind_place-p-requires
-behind_place-p-requires c =     let args = c.args in
+behind_place-p-requires c = let args = c.args in
     let pre = c.requires in
     let m = c.middle_of-m in
-    let pos : 1 ≤ args.b = (let h = pre.1.1.1.0.0 in omega arith) in
-    ((pre.1.1.1.0.1, pre.1.0), (m.ensures.end, λ h. behind-wide args.s.now args.start args.len args.n args.b args.run.places args.run.bits m.result.from m.result.behind pos pre.1.1.0 pre.1.1.1.1.0 m.ensures h))
+    let pos : 1 ≤ args.b = (let h = pre.le_b.0 in omega arith) in
+    record { b_bound = (pre.le_b.1, pre.n_le_max_bits); i_le_n = m.ensures.end; b_le_i = (λ h. behind-wide args.s.now args.start args.len args.n args.b args.run.places args.run.bits m.result.from m.result.behind pos pre.run_apart pre.placed m.ensures h) }
 
 pub overflow_add-start : goal.overflow_add-start
-overflow_add-start c =     let args = c.args in
+overflow_add-start c = let args = c.args in
     let pre = c.requires in
     let m = c.middle_of-m in
-    let pos : 1 ≤ args.b = (let h = pre.1.1.1.0.0 in omega arith) in
-    let w = behind-within args.s.now args.start args.len args.n args.b args.run.places args.run.bits m.result.from m.result.behind pos pre.1.1.0 pre.1.1.1.1.0 m.ensures in
+    let pos : 1 ≤ args.b = (let h = pre.le_b.0 in omega arith) in
+    let w = behind-within args.s.now args.start args.len args.n args.b args.run.places args.run.bits m.result.from m.result.behind pos pre.run_apart pre.placed m.ensures in
     let e = c.behind_place-p.ensures in
-    let few = pre.0.few in search rules
+    let few = pre.part.few in search rules
 
 pub hash_on-all-requires : goal.hash_on-all-requires
-hash_on-all-requires c =     let args = c.args in
+hash_on-all-requires c = let args = c.args in
     let pre = c.requires in
     let m = c.middle_of-m in
-    let pos : 1 ≤ args.b = (let h = pre.1.1.1.0.0 in omega arith) in
-    let w = behind-within args.s.now args.start args.len args.n args.b args.run.places args.run.bits m.result.from m.result.behind pos pre.1.1.0 pre.1.1.1.1.0 m.ensures in
+    let pos : 1 ≤ args.b = (let h = pre.le_b.0 in omega arith) in
+    let w = behind-within args.s.now args.start args.len args.n args.b args.run.places args.run.bits m.result.from m.result.behind pos pre.run_apart pre.placed m.ensures in
     let e = c.behind_place-p.ensures in
-    let there = pre.0.there in
-    let few = pre.0.few in record { there = omega arith; few = omega arith }
+    let there = pre.part.there in
+    let few = pre.part.few in record { there = omega arith; few = omega arith }
 
 pub low_bits-requires : goal.low_bits-requires
 low_bits-requires c = c.requires.h_bound
 
 pub returns : goal.returns
-returns c =     let args = c.args in
+returns c = let args = c.args in
     let pre = c.requires in
     let m = c.middle_of-m in
-    let pos : 1 ≤ args.b = (let h = pre.1.1.1.0.0 in omega arith) in
-    c.low_bits.ensures ∙ parts-hashed args.s.now args.start args.len args.n args.b args.run.places args.run.bits m.result.from m.result.behind pos pre.1.1.0 pre.1.1.1.1.0 m.ensures _ c.behind_place-p.ensures args.h args.key _ _ _ _ _ _ c.hash_on-before.ensures c.hash_middle-here.ensures c.hash_on-all.ensures
+    let pos : 1 ≤ args.b = (let h = pre.le_b.0 in omega arith) in
+    c.low_bits.ensures ∙ parts-hashed args.s.now args.start args.len args.n args.b args.run.places args.run.bits m.result.from m.result.behind pos pre.run_apart pre.placed m.ensures _ c.behind_place-p.ensures args.h args.key _ _ _ _ _ _ c.hash_on-before.ensures c.hash_middle-here.ensures c.hash_on-all.ensures
