@@ -7,17 +7,17 @@ use Rattle.codes.specs.laws.EditLaws.{as-put, as-take, edited-as}
 use Rattle.codes.proofs.edits.hash_edited.Goals as goal
 
 pub hash_put-requires : goal.hash_put-requires
-hash_put-requires c =     let s = c.before.before.before.before in
-    let bits = range s.args.s.now s.args.start s.args.len in record { part = s.requires.part; i_le_len = (as-put s.args.e bits s.args.len (range_length _ _ _) s.requires.fits c.in-Put.i c.in-Put.b c.in-Put.is).0; h_bound = s.requires.h_bound }
+hash_put-requires c =
+    let bits = range c.args.s.now c.args.start c.args.len in record { part = c.requires.part; i_le_len = (as-put c.args.e bits c.args.len (range_length _ _ _) c.requires.fits c.in-Put.i c.in-Put.b c.in-Put.is).0; h_bound = c.requires.h_bound }
 
 pub hash_take-requires : goal.hash_take-requires
-hash_take-requires c =     let s = c.before.before.before.before in
-    let bits = range s.args.s.now s.args.start s.args.len in record { part = s.requires.part; i_lt_len = (as-take s.args.e bits s.args.len (range_length _ _ _) s.requires.fits c.in-Take.i c.in-Take.is).0; h_bound = s.requires.h_bound }
+hash_take-requires c =
+    let bits = range c.args.s.now c.args.start c.args.len in record { part = c.requires.part; i_lt_len = (as-take c.args.e bits c.args.len (range_length _ _ _) c.requires.fits c.in-Take.i c.in-Take.is).0; h_bound = c.requires.h_bound }
 
 pub returns-in-Put : goal.returns-in-Put
-returns-in-Put c =     let s = c.before.before.before.before.before in
-    c.hash_put.ensures ∙ ap (hash s.args.h s.args.key) (edited-as s.args.e _ (range s.args.s.now s.args.start s.args.len) c.in-Put.is)
+returns-in-Put c =
+    c.hash_put.ensures ∙ ap (hash c.args.h c.args.key) (edited-as c.args.e _ (range c.args.s.now c.args.start c.args.len) c.in-Put.is)
 
 pub returns-in-Take : goal.returns-in-Take
-returns-in-Take c =     let s = c.before.before.before.before.before in
-    c.hash_take.ensures ∙ ap (hash s.args.h s.args.key) (edited-as s.args.e _ (range s.args.s.now s.args.start s.args.len) c.in-Take.is)
+returns-in-Take c =
+    c.hash_take.ensures ∙ ap (hash c.args.h c.args.key) (edited-as c.args.e _ (range c.args.s.now c.args.start c.args.len) c.in-Take.is)

@@ -1,5 +1,5 @@
 -- `codes::link_lows` meets its contract: the numbers from j on are linked and counted. Assumes nothing.
-use Prim.Native.Nat.{◌-◌, ◌^◌, ◌≤◌}
+use Prim.Native.Nat.{◌^◌, ◌≤◌}
 use Rattle.codes.specs.code.Linking.{low_digits, Linked, Counted}
 use Rattle.codes.proofs.lists.link_lows.Given as goal
 

@@ -7,6 +7,6 @@ use Rattle.codes.proofs.lists.wanted_residue.Goals as goal
 
 pub returns : goal.returns
 unfolding wanted
-returns c =     let args = c.args in
+returns c = let args = c.args in
     let m = c.subtract_modulo.ensures.below in
     (c.subtract_modulo.ensures.is ∙ ap (λ (x : ℕ). (args.a + (args.n + 1 - x)) % (args.n + 1)) c.residue_of-high.ensures.0, omega arith)

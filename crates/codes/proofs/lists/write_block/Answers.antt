@@ -1,6 +1,6 @@
 use mathlib.Core.Path.{refl, sym, ap, ◌∙◌}
 use mathlib.Core.List.{List}
-use Prim.Native.Nat.{ℕ, ◌+◌, ◌-◌, ◌*◌, ◌^◌, ◌≤◌, ◌<◌}
+use Prim.Native.Nat.{ℕ, ◌+◌, ◌*◌, ◌^◌, ◌≤◌, ◌<◌}
 use native.Mathlib.Omega.{arith}
 use lib.ListN.{length, get_or, length-set}
 use lib.Seq.{sets}
@@ -16,15 +16,14 @@ turn : (c : goal.In-loop-j) → (c.loop-j.at < length c.loop-j.out) × (c.loop-j
     c.args.r c.loop-j.j
     (get_or c.args.next.now c.loop-j.j 0)
 turn c =
-    let start = c.before.before.before.before.before.before.before in
-    let args = start.args in
+    let args = c.args in
     let loop = c.loop-j in
     let p = c.power-size.ensures in
     let l : loop.j < 2 ^ low_digits args.n = (let t = c.loop-j-test.true in omega arith) in
-    let t = link-next args.n args.first.now args.next.now start.requires.linked args.r loop.j l (loop.invariant.1 l) in
+    let t = link-next args.n args.first.now args.next.now c.requires.linked args.r loop.j l (loop.invariant.1 l) in
     let e = ap length t.more in
-    let q = start.requires.r_in_bounds in
-    let m = low-power-most args.n start.requires.n_bound.0 in
+    let q = c.requires.r_in_bounds in
+    let m = low-power-most args.n c.requires.n_bound.0 in
     let i = loop.invariant.2 in
     let k = loop.invariant.3 in
     (omega arith, omega arith, t)
@@ -54,16 +53,30 @@ pub bounds-out-at : goal.bounds-out-at
 bounds-out-at c = let h = (turn c).0 in search rules
 
 pub offset_bounds-next-j : goal.offset_bounds-next-j
-offset_bounds-next-j c = let h = (turn c).1 in search rules
+offset_bounds-next-j c =
+    let l : c.loop-j.j < 2 ^ low_digits c.args.n = (let p = c.power-size.ensures in let t = c.loop-j-test.true in omega arith) in
+    let m = low-power-most c.args.n c.requires.n_bound.0 in
+    let h : c.loop-j.j < 1024 = omega arith in
+    search rules
 
 pub bounds-next-j : goal.bounds-next-j
-bounds-next-j c = let h = (turn c.before).1 in search rules
+bounds-next-j c =
+    let l : c.loop-j.j < 2 ^ low_digits c.args.n = (let p = c.power-size.ensures in let t = c.loop-j-test.true in omega arith) in
+    let m = low-power-most c.args.n c.requires.n_bound.0 in
+    let h : c.loop-j.j < 1024 = omega arith in
+    search rules
 
 pub loop-j-smaller : goal.loop-j-smaller
-loop-j-smaller c = let h = (turn c.before).2.later in let p = c.power-size.ensures in omega arith
+loop-j-smaller c =
+    let l : c.loop-j.j < 2 ^ low_digits c.args.n = (let p = c.power-size.ensures in let t = c.loop-j-test.true in omega arith) in
+    let t = link-next c.args.n c.args.first.now c.args.next.now c.requires.linked c.args.r c.loop-j.j l (c.loop-j.invariant.1 l) in
+    let h = t.later in let p = c.power-size.ensures in omega arith
 
 pub loop-j-preserved : goal.loop-j-preserved
-loop-j-preserved c = let args = c.args in let loop = c.loop-j in let t = (turn c.before).2 in let p = c.power-size.ensures in let e = ap length t.more in
+loop-j-preserved c =
+    let l : c.loop-j.j < 2 ^ low_digits c.args.n = (let p = c.power-size.ensures in let t = c.loop-j-test.true in omega arith) in
+    let t = link-next c.args.n c.args.first.now c.args.next.now c.requires.linked c.args.r c.loop-j.j l (c.loop-j.invariant.1 l) in
+    let args = c.args in let loop = c.loop-j in let p = c.power-size.ensures in let e = ap length t.more in
     (t.most, t.hit, length-set loop.out loop.at _ ∙ loop.invariant.2, omega arith, block-turn args.n args.r args.h loop.at loop.j _ _ loop.out _ t.more (ap (λ (x : ℕ). args.h * x + loop.j) p) loop.invariant.4)
 
 pub returns : goal.returns

@@ -1,5 +1,5 @@
 use mathlib.Core.Path.{refl, sym, ap, ◌∙◌}
-use Prim.Native.Nat.{◌-◌, ◌^◌, ◌<◌}
+use Prim.Native.Nat.{◌^◌, ◌<◌}
 use native.Mathlib.Omega.{arith}
 use lib.ListN.{length}
 use lib.Seq.{sets, length-sets}
@@ -16,7 +16,7 @@ write_block-k-requires c = let args = c.args in let loop = c.loop-h in let p = c
     let l : loop.h < 2 ^ high_digits args.n = omega arith in
     let e = count_turn args.n args.a loop.h c.wanted_residue-r.result c.wanted_residue-r.ensures.0 l in
     let i = loop.invariant.0 in let k = loop.invariant.1 in let q = c.requires.a_in_bounds in
-    ((c.requires.n_bound.0, l, c.wanted_residue-r.ensures.1), (c.requires.linked, omega arith))
+    record { n_bound = (c.requires.n_bound.0, l, c.wanted_residue-r.ensures.1); linked = c.requires.linked; r_in_bounds = omega arith }
 
 pub loop-h-preserved : goal.loop-h-preserved
 loop-h-preserved c = let args = c.args in let loop = c.loop-h in let p = c.power-end.ensures in let t = c.loop-h-test.true in
@@ -25,8 +25,8 @@ loop-h-preserved c = let args = c.args in let loop = c.loop-h in let p = c.power
     let b = c.write_block-k.ensures in
     let e = count_turn args.n args.a loop.h w.result w.ensures.0 l in
     let k = loop.invariant.1 in
-    let f = b.1 in
-    (ap length b.0 ∙ length-sets loop.out loop.k (behind args.n loop.h (lows args.n w.result 0)) ∙ loop.invariant.0, omega arith, list-turn args.n args.a loop.h w.result w.ensures.0 l loop.out _ _ loop.k _ b.0 b.1 loop.invariant.2)
+    let f = b.value in
+    (ap length b.out_after ∙ length-sets loop.out loop.k (behind args.n loop.h (lows args.n w.result 0)) ∙ loop.invariant.0, omega arith, list-turn args.n args.a loop.h w.result w.ensures.0 l loop.out _ _ loop.k _ b.out_after b.value loop.invariant.2)
 
 pub returns : goal.returns
 returns c = let loop = c.loop-h in let p = c.power-end.ensures in let t = c.loop-h-test.false in

@@ -1,5 +1,4 @@
 use mathlib.Core.Path.{refl, ap, ◌∙◌}
-use Prim.Native.Nat.{◌-◌}
 use native.Mathlib.Omega.{arith}
 use lib.ListN.{length}
 use Rattle.strings.specs.Bits.{write_bits}
@@ -10,12 +9,12 @@ use borrow.Author.Rules.{rules}
 use Rattle.codes.proofs.markers.gather_message.Goals as goal
 
 pub loop-p-init : goal.loop-p-init
-loop-p-init c =     let args = c.args in
+loop-p-init c = let args = c.args in
     let e = others-first args.n in
     (omega arith, power-one, omega arith, refl, ap (write_bits args.out.now 0) (message-first args.s.now args.n))
 
 pub copy_bits-requires : goal.copy_bits-requires
-copy_bits-requires c =     let l = c.loop-p in
+copy_bits-requires c = let l = c.loop-p in
     let n = c.args.n in
     let b = c.block_length-len.ensures in
     let f = b.fits in
@@ -25,7 +24,7 @@ copy_bits-requires c =     let l = c.loop-p in
     search rules
 
 pub overflow_add-at : goal.overflow_add-at
-overflow_add-at c =     let block = c.block_length-len in
+overflow_add-at c = let block = c.block_length-len in
     let l = c.loop-p in
     let n = c.args.n in
     let f = block.ensures.fits in
@@ -34,7 +33,7 @@ overflow_add-at c =     let block = c.block_length-len in
     search rules
 
 pub loop-p-preserved : goal.loop-p-preserved
-loop-p-preserved c =     let copied = c.copy_bits.ensures in
+loop-p-preserved c = let copied = c.copy_bits.ensures in
     let block = c.block_length-len in
     let l = c.loop-p in
     let args = c.args in
@@ -48,6 +47,6 @@ loop-p-preserved c =     let copied = c.copy_bits.ensures in
     )
 
 pub returns : goal.returns
-returns c =     let l = c.loop-p in
+returns c = let l = c.loop-p in
     let args = c.args in
     message-last args.n l.p l.at args.s.now l.out _ c.loop-p-test.false l.invariant.4

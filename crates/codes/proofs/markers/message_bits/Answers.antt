@@ -1,5 +1,3 @@
-use mathlib.Core.Bool.{true}
-use Prim.Native.Nat.{◌-◌}
 use native.Mathlib.Omega.{arith}
 use Rattle.codes.specs.laws.PowerLaws.{power-one, power-double}
 use Rattle.codes.specs.laws.MarkerBlockLaws.{powers-turn, powers-first, powers-last, powers-most}
@@ -9,7 +7,7 @@ pub loop-p-init : goal.loop-p-init
 loop-p-init c = let e = powers-first c.args.n in (omega arith, power-one, omega arith)
 
 pub loop-p-preserved : goal.loop-p-preserved
-loop-p-preserved c =     let l = c.loop-p in
+loop-p-preserved c = let l = c.loop-p in
     let e = powers-turn c.args.n l.p l.invariant.1 c.loop-p-test.true in
     (omega arith, power-double l.p l.invariant.1, omega arith)
 

@@ -1,6 +1,4 @@
 use mathlib.Core.Path.{◌∙◌}
-use mathlib.Core.Bool.{true}
-use Prim.Native.Nat.{◌-◌}
 use native.Mathlib.Omega.{arith}
 use Rattle.codes.specs.laws.PowerLaws.{power-one, power-double}
 use Rattle.codes.specs.laws.MarkerBlockLaws.{number-next, number-first, number-last, bit-times-most}
@@ -17,7 +15,7 @@ pub overflow_add-v : goal.overflow_add-v
 overflow_add-v c = let m = bit-times-most c.loop-p.p c.get_bit.result in search rules
 
 pub loop-p-preserved : goal.loop-p-preserved
-loop-p-preserved c =     let l = c.loop-p in
+loop-p-preserved c = let l = c.loop-p in
     let args = c.args in
     let m = bit-times-most l.p c.get_bit.result in (
       omega arith,
@@ -26,6 +24,6 @@ loop-p-preserved c =     let l = c.loop-p in
     )
 
 pub returns : goal.returns
-returns c =     let l = c.loop-p in
+returns c = let l = c.loop-p in
     let args = c.args in
     number-last args.s.now args.n l.p l.v _ c.loop-p-test.false l.invariant.2

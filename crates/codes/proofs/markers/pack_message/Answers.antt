@@ -12,17 +12,17 @@ use borrow.Author.Rules.{rules}
 use Rattle.codes.proofs.markers.pack_message.Goals as goal
 
 pub overflow_add-count : goal.overflow_add-count
-overflow_add-count c =     let e = c.message_bits-count.ensures in
+overflow_add-count c = let e = c.message_bits-count.ensures in
     let m = message-bits-most c.args.n in
     search rules
 
 pub gather_message-requires : goal.gather_message-requires
-gather_message-requires c =     let e = c.message_bits-count.ensures in
+gather_message-requires c = let e = c.message_bits-count.ensures in
     let m = message-bits-most c.args.n in
     search rules
 
 pub returns : goal.returns
-returns c =     let gathered = c.gather_message.ensures in
+returns c = let gathered = c.gather_message.ensures in
     let zeros = c.clear_bytes.ensures in
     let count = c.message_bits-count.ensures in
     let start = c.before.before.before.before.before.before.before.before.before.before.before in

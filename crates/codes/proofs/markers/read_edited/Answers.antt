@@ -15,13 +15,12 @@ use borrow.Author.Rules.{rules}
 use Rattle.codes.proofs.markers.read_edited.Goals as goal
 
 pub pack_edited-requires : goal.pack_edited-requires
-pack_edited-requires c =     let pre = c.requires in
-    let few = pre.0 in record { part = pre.1.0; fits = pre.1.1.0; len_len = pre.1.1.1.0; n_le_max_bits = omega arith; n_in_bounds = search rules }
+pack_edited-requires c = let pre = c.requires in
+    let few = pre.n_le_max_marker_bits in record { part = pre.part; fits = pre.fits; len_len = pre.bits_len; n_le_max_bits = omega arith; n_in_bounds = search rules }
 
 pub returns : goal.returns
-returns c =     let packed = c.pack_edited.ensures in
-    let start = c.before.before.before.before.before.before.before.before.before.before in
-    let n = start.args.n in
-    let word = edited start.args.e (range start.args.s.now 0 start.args.bits) in
-    let same = ap (λ (x : List ℕ). range x 0 n) packed ∙ front-range word _ n start.requires.bits_len in
-    c.read_word.ensures ∙ ap (λ (w : List Bool). repair_left start.args.out.now (value (built_message n (some w)))) same
+returns c = let packed = c.pack_edited.ensures in
+    let n = c.args.n in
+    let word = edited c.args.e (range c.args.s.now 0 c.args.bits) in
+    let same = ap (λ (x : List ℕ). range x 0 n) packed ∙ front-range word _ n c.requires.bits_len in
+    c.read_word.ensures ∙ ap (λ (w : List Bool). repair_left c.args.out.now (value (built_message n (some w)))) same

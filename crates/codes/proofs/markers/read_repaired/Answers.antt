@@ -14,30 +14,25 @@ use Rattle.codes.specs.laws.MarkerEntryLaws.{read-other}
 use Rattle.codes.proofs.markers.read_repaired.Goals as goal
 
 pub read_edited-requires : goal.read_edited-requires
-read_edited-requires c =     let given = c.e-1.given in
-    let found = c.find_repair in
-    let start = c.before.before.before.before.before.before.before in
-    let args = start.args in
+read_edited-requires c = let found = c.find_repair in
+    let args = c.args in
     let bits = range args.s.now 0 args.bits in
-    let is = found-is found.result bits _ found.ensures.len_value given.0.0 given.1 in
-    let fits = found-fits found.result args.bits given.0.0 found.ensures.repair_fits given.1 in
-    let long = repair-length args.n args.a args.bits bits (edited given.0.0 bits) (range_length _ _ _) start.requires.one_apart is in record { n_le_max_marker_bits = start.requires.n_le_max_marker_bits; part = start.requires.part; fits = fits; bits_len = long; n_in_bounds = start.requires.n_in_bounds }
+    let is = found-is found.result bits _ found.ensures.len_value c.in-Found.e c.in-Found.is in
+    let fits = found-fits found.result args.bits c.in-Found.e found.ensures.repair_fits c.in-Found.is in
+    let long = repair-length args.n args.a args.bits bits (edited c.in-Found.e bits) (range_length _ _ _) c.requires.one_apart is in record { n_le_max_marker_bits = c.requires.n_le_max_marker_bits; part = c.requires.part; fits = fits; bits_len = long; n_in_bounds = c.requires.n_in_bounds }
 
 pub returns-in-Nothing : goal.returns-in-Nothing
-returns-in-Nothing c =     let found = c.find_repair in
-    let start = c.before.before.before.before.before in
-    let args = start.args in
+returns-in-Nothing c = let found = c.find_repair in
+    let args = c.args in
     let bits = range args.s.now 0 args.bits in
     let is = nothing_is found.result bits _ found.ensures.len_value c.in-Nothing.is in
-    let reads = read-other args.n args.a bits args.bits (range_length _ _ _) start.requires.one_apart none is in
+    let reads = read-other args.n args.a bits args.bits (range_length _ _ _) c.requires.one_apart none is in
     sym (ap (λ (o : Option (List Bool)). repair_left args.out.now (value o)) reads)
 
 pub returns-in-Found : goal.returns-in-Found
-returns-in-Found c =     let given = c.e-1.given in
-    let found = c.find_repair in
-    let start = c.before.before.before.before.before.before.before.before.before.before in
-    let args = start.args in
+returns-in-Found c = let found = c.find_repair in
+    let args = c.args in
     let bits = range args.s.now 0 args.bits in
-    let is = found-is found.result bits _ found.ensures.len_value given.0.0 given.1 in
-    let reads = read-other args.n args.a bits args.bits (range_length _ _ _) start.requires.one_apart (some (edited given.0.0 bits)) is in
+    let is = found-is found.result bits _ found.ensures.len_value c.in-Found.e c.in-Found.is in
+    let reads = read-other args.n args.a bits args.bits (range_length _ _ _) c.requires.one_apart (some (edited c.in-Found.e bits)) is in
     c.read_edited.ensures ∙ sym (ap (λ (o : Option (List Bool)). repair_left args.out.now (value o)) reads)

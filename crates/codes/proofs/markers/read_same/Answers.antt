@@ -11,13 +11,13 @@ use Rattle.codes.specs.laws.MarkerEntryLaws.{read-wrong, read_right}
 use Rattle.codes.proofs.markers.read_same.Goals as goal
 
 pub returns-then-syndrome_of-a : goal.returns-then-syndrome_of-a
-returns-then-syndrome_of-a c =     let syndrome = c.syndrome_of in
+returns-then-syndrome_of-a c = let syndrome = c.syndrome_of in
     let args = c.args in
     let bits = range args.s.now 0 args.n in
     sym (ap (λ (o : Option (List Bool)). repair_left args.out.now (value o)) (read-wrong args.n args.a bits args.n (range_length _ _ _) syndrome.result refl syndrome.ensures c.if-syndrome_of-a.true))
 
 pub returns : goal.returns
-returns c =     let test = c.before.before.before.before in
+returns c = let test = c.before.before.before.before in
     let syndrome = test.syndrome_of in
     let args = test.args in
     let bits = range args.s.now 0 args.n in

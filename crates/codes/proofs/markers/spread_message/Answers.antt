@@ -12,12 +12,12 @@ use borrow.Author.Rules.{rules}
 use Rattle.codes.proofs.markers.spread_message.Goals as goal
 
 pub loop-p-init : goal.loop-p-init
-loop-p-init c =     let args = c.args in
+loop-p-init c = let args = c.args in
     let e = others-first args.n in
     (omega arith, power-one, omega arith, refl, ap (write_bits args.out.now 0) (spread-first args.n args.m.now))
 
 pub copy_bits-requires : goal.copy_bits-requires
-copy_bits-requires c =     let b = c.block_length-len.ensures in
+copy_bits-requires c = let b = c.block_length-len.ensures in
     let l = c.loop-p in
     let start = c.before.before.before.before.before.before.before.before.before.before in
     let pre = start.requires in
@@ -28,7 +28,7 @@ copy_bits-requires c =     let b = c.block_length-len.ensures in
     search rules
 
 pub overflow_add-at : goal.overflow_add-at
-overflow_add-at c =     let block = c.block_length-len in
+overflow_add-at c = let block = c.block_length-len in
     let l = c.loop-p in
     let n = c.args.n in
     let f = block.ensures.fits in
@@ -37,7 +37,7 @@ overflow_add-at c =     let block = c.block_length-len in
     search rules
 
 pub loop-p-preserved : goal.loop-p-preserved
-loop-p-preserved c =     let copied = c.copy_bits.ensures in
+loop-p-preserved c = let copied = c.copy_bits.ensures in
     let block = c.block_length-len in
     let put = c.set_bit.ensures in
     let l = c.loop-p in
@@ -52,6 +52,6 @@ loop-p-preserved c =     let copied = c.copy_bits.ensures in
     )
 
 pub returns : goal.returns
-returns c =     let l = c.loop-p in
+returns c = let l = c.loop-p in
     let args = c.args in
     merged-last args.n l.p 0 (range args.m.now l.at (others_from args.n l.p)) l.out _ c.loop-p-test.false l.invariant.4

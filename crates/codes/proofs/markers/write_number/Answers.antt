@@ -1,5 +1,4 @@
 use mathlib.Core.Path.{refl, ap, ◌∙◌}
-use mathlib.Core.Bool.{true}
 use Prim.Native.Nat.{◌-◌}
 use native.Mathlib.Omega.{arith}
 use lib.ListN.{length}
@@ -11,11 +10,11 @@ use Rattle.codes.specs.laws.MarkerBlockLaws.{digit-next, digits-first, merged-la
 use Rattle.codes.proofs.markers.write_number.Goals as goal
 
 pub loop-p-init : goal.loop-p-init
-loop-p-init c =     let args = c.args in
+loop-p-init c = let args = c.args in
     (omega arith, power-one, refl, ap (write_bits args.out.now 0) (digits-first args.n args.v args.out.now))
 
 pub loop-p-preserved : goal.loop-p-preserved
-loop-p-preserved c =     let put = c.set_bit.ensures in
+loop-p-preserved c = let put = c.set_bit.ensures in
     let test = c.loop-p-test in
     let l = c.loop-p in
     let start = c.before.before.before.before.before.before.before in
@@ -28,6 +27,6 @@ loop-p-preserved c =     let put = c.set_bit.ensures in
     )
 
 pub returns : goal.returns
-returns c =     let l = c.loop-p in
+returns c = let l = c.loop-p in
     let args = c.args in
     merged-last args.n l.p l.left (message_from l.out args.n l.p) l.out _ c.loop-p-test.false l.invariant.3

@@ -10,7 +10,7 @@ use Rattle.codes.proofs.markers.write_number.Given as goal
 
 -- the word from place p on is written with the message that stands there
 abbrev pub invariant-loop-p : goal.invariant-loop-p
-invariant-loop-p l =     (0 < l.p) × (is_power l.p ≡ true) × (length l.out ≡ length l.initial.out)
+invariant-loop-p l = (0 < l.p) × (is_power l.p ≡ true) × (length l.out ≡ length l.initial.out)
     × (write_bits l.out (l.p - 1) (merged_from l.n l.p l.left (message_from l.out l.n l.p)) ≡ write_bits l.initial.out 0 (merged l.n 1 l.v (message 1 (range l.initial.out 0 l.n))))
 
 abbrev pub decreases-loop-p : goal.decreases-loop-p

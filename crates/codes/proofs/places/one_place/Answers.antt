@@ -12,7 +12,7 @@ pub loop-i-init : goal.loop-i-init
 loop-i-init c = let e = ap (one_place c.args.z) (rest-first c.args.s.now c.args.start c.args.len) in omega arith
 
 pub overflow_sub-zeros : goal.overflow_sub-zeros
-overflow_sub-zeros c =     let v = c.eight_bits.result in
+overflow_sub-zeros c = let v = c.eight_bits.result in
     let m : ones (byte_bits v) + zeros (byte_bits v) ≡ 8 = ones-zeros (byte_bits v) in
     let o = c.ones_byte.ensures in
     omega arith
@@ -21,7 +21,7 @@ pub returns-then-left-zeros : goal.returns-then-left-zeros
 returns-then-left-zeros c = c.one_singly.ensures ∙ c.loop-i.invariant.1
 
 pub loop-i-preserved : goal.loop-i-preserved
-loop-i-preserved c =     let args = c.args in
+loop-i-preserved c = let args = c.args in
     let loop = c.loop-i in
     let eight-bits = c.eight_bits in
     let zeros = 8 - c.ones_byte.result in

@@ -1,6 +1,5 @@
 use mathlib.Core.Path.{refl, ap, ◌∙◌}
 use mathlib.Core.Bool.{not}
-use Prim.Native.Nat.{◌-◌}
 use native.Mathlib.Omega.{arith}
 use Rattle.strings.specs.laws.RangeLaws.{rest, rest-last, rest-is}
 use Rattle.codes.specs.code.Place.{one_place}

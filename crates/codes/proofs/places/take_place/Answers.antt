@@ -7,11 +7,11 @@ use Rattle.codes.specs.laws.PlaceLaws.{zero-fall-is, take-place-above, take-plac
 use Rattle.codes.proofs.places.take_place.Goals as goal
 
 pub returns-then-len-a : goal.returns-then-len-a
-returns-then-len-a c =     let args = c.args in
+returns-then-len-a c = let args = c.args in
     take-place-above args.a (range args.s.now args.start args.len) args.len (range_length _ _ _) c.if-len-a.true
 
 pub returns-then-zero-len : goal.returns-then-zero-len
-returns-then-zero-len c =     let args = c.args in
+returns-then-zero-len c = let args = c.args in
     let bits = range args.s.now args.start args.len in
     let sum = c.sum_modulo-sum in
     let fall = c.subtract_modulo-for_zero in
@@ -20,7 +20,7 @@ returns-then-zero-len c =     let args = c.args in
     take-place-zero bits args.len args.a (weighted_sum 1 bits) fall.result for-one.result (range_length _ _ _) c.if-len-a.false refl (zero-fall-is args.len (weighted_sum 1 bits) args.a sum.result fall.result sum.ensures fall.ensures) for-one.ensures zero.result zero.ensures c.if-zero-len.true
 
 pub returns : goal.returns
-returns c =     let args = c.args in
+returns c = let args = c.args in
     let bits = range args.s.now args.start args.len in
     let sum = c.sum_modulo-sum in
     let fall = c.subtract_modulo-for_zero in

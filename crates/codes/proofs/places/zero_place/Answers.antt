@@ -1,5 +1,5 @@
 use mathlib.Core.Path.{◌≡◌, ap, ◌∙◌}
-use Prim.Native.Nat.{◌+◌, ◌-◌}
+use Prim.Native.Nat.{◌+◌}
 use native.Mathlib.Omega.{arith}
 use Rattle.strings.specs.laws.RangeLaws.{rest, rest-first}
 use Rattle.codes.specs.code.Place.{ones, zero_place}
@@ -31,9 +31,10 @@ pub returns-then-behind-r : goal.returns-then-behind-r
 returns-then-behind-r c = c.zero_singly.ensures ∙ c.loop-i.invariant.2
 
 pub loop-i-preserved : goal.loop-i-preserved
-loop-i-preserved c =     let args = c.args in
+loop-i-preserved c = let args = c.args in
     let eight-bits = c.eight_bits in
-    let o = turn c.before in
+    let q = ones-byte-pass args.s.now args.start args.len c.loop-i.i eight-bits.result c.loop-i-test.true eight-bits.ensures in
+    let o = c.ones_byte.ensures in
     let p = zero-place-byte args.s.now args.start args.len c.loop-i.i eight-bits.result c.loop-i-test.true eight-bits.ensures args.r (omega arith) in
     omega arith
 

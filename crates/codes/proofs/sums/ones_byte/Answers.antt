@@ -9,19 +9,19 @@ pub overflow_sub-twos : goal.overflow_sub-twos
 overflow_sub-twos c = let m = and_le_l (c.args.v / 2) 85 in omega arith
 
 pub overflow_add-fours : goal.overflow_add-fours
-overflow_add-fours c =     let twos = c.args.v - bit_and (c.args.v / 2) 85 in
+overflow_add-fours c = let twos = c.args.v - bit_and (c.args.v / 2) 85 in
     let m = and_le_r twos 51 in
     let n = and_le_r (twos / 4) 51 in
     record { fits = omega arith }
 
 pub overflow_add-result : goal.overflow_add-result
-overflow_add-result c =     let twos = c.args.v - bit_and (c.args.v / 2) 85 in
+overflow_add-result c = let twos = c.args.v - bit_and (c.args.v / 2) 85 in
     let m = and_le_r twos 51 in
     let n = and_le_r (twos / 4) 51 in
     record { fits = omega arith }
 
 pub overflow_cast-result : goal.overflow_cast-result
-overflow_cast-result c =     let twos = c.args.v - bit_and (c.args.v / 2) 85 in
+overflow_cast-result c = let twos = c.args.v - bit_and (c.args.v / 2) 85 in
     let fours = bit_and twos 51 + bit_and (twos / 4) 51 in
     let m = and_le_r (fours + fours / 16) 15 in
     record { fits = omega arith }
