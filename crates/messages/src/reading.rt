@@ -31,7 +31,7 @@ pub struct Readings {
 }
 
 // A reader: `src` is the message, `at` is how far it has got, as the index of the first byte that is not read yet.
-#[derive(Drop)]
+#[derive(Clone, Copy)]
 pub struct Reader<'a> {
     pub src: &'a [u8],
     pub at: usize,

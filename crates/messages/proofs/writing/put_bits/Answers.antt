@@ -1,0 +1,13 @@
+use native.Mathlib.Omega.{arith}
+use Rattle.strings.specs.Bits.{range, pack}
+use Rattle.strings.specs.laws.RangeLaws.{range_length}
+use Rattle.strings.specs.laws.PackLaws.{length-pack}
+use Rattle.messages.specs.laws.WritingLaws.{part-sets}
+use Rattle.messages.proofs.writing.put_bits.Goals as goal
+
+pub returns : goal.returns
+returns c = let a = c.args in
+    let put-bits-first = c.put_bits_first in
+    let l = range_length a.x.now a.start a.len in
+    let n = length-pack (range a.x.now a.start a.len) in
+    part-sets a.buf.now _ (pack (range a.x.now a.start a.len)) a.at (omega arith) put-bits-first.ensures
