@@ -14,7 +14,6 @@ pub mod SheetCall
 pub mod AnchorSearch
 pub mod Worlds
 pub mod Statement
-pub mod Theorem
 pub mod laws
 pub mod code
 pub mod examples

@@ -5,8 +5,6 @@ pub mod StateCode
 pub mod SoundCode
 pub mod SoundLaws
 pub mod HolderParts
-pub mod HolderCodeLaws
 pub mod RebuilderParts
 pub mod RebuilderCodeLaws
 pub mod RebuilderCallLaws
-pub mod SheetCallLaws

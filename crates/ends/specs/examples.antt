@@ -1,4 +1,3 @@
 -- Worked examples, computed on the definitions.
 pub mod Marked
 pub mod Samples
-pub mod Demo

@@ -6,7 +6,6 @@ pub mod Shape
 pub mod Counts
 pub mod Invariant
 pub mod Kept
-pub mod Lasting
 pub mod Store
 pub mod StackLaws
 pub mod Standing
@@ -20,7 +19,4 @@ pub mod SheetLength
 pub mod HolderLaws
 pub mod Delivery
 pub mod RunLaws
-pub mod CallLists
-pub mod Claimed
-pub mod RunEnds
 pub mod RefusedLaws

@@ -16,7 +16,7 @@ use Rattle.ends.specs.SheetCall.{leaves_on_sheet}
 use Rattle.ends.specs.Statement.{FairCall, HoldersAnswer, LongEnough, OnceEach, RebuilderClaims, Supposed, WasTaken, fixed}
 use Rattle.ends.specs.Worlds.{Call, Lent, World, after_holder, after_rebuilder, joined, last_written, step_world, to_holder, to_rebuilder}
 use Rattle.ends.specs.declared.Row.{Row}
-use Rattle.ends.specs.laws.Claimed.{Known, holder-claims, holder_known, rebuilder-claims, rebuilder-known}
+use Rattle.ends.proofs.laws.Claimed.{Known, holder-claims, holder_known, rebuilder-claims, rebuilder-known}
 use Rattle.ends.specs.laws.RefusedLaws.{call-numbered, holder-numbered}
 use Rattle.ends.specs.laws.RunLaws.{written-waits}
 use Rattle.ends.specs.laws.SheetLength.{SmallRow, taken-row, taken-rows}

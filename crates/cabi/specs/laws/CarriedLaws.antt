@@ -6,7 +6,7 @@ use Rattle.std.proofs.Math.ListN.{get_or-eq_default}
 use Rattle.strings.specs.Bits.{max_bits}
 use Rattle.strings.specs.Bits.{Bytes}
 use Rattle.strings.specs.StringRule.{string_rule}
-use Rattle.strings.specs.laws.RuleLaws.{rule-is}
+use Rattle.strings.proofs.laws.RuleLaws.{rule-is}
 use Rattle.strings.specs.laws.ResultLaws.{unless-passed}
 use Rattle.strings.specs.laws.Tests.{by-test}
 use Rattle.strings.specs.declared.Refusal.TheVariants.{BadSetting, BadString, OutOfTurn, BufferTooShort}

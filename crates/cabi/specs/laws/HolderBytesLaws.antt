@@ -6,7 +6,7 @@ use Rattle.std.proofs.Math.ListN.{length, drop}
 use Rattle.std.proofs.lemmas.Bool.{lt-leb}
 use Rattle.strings.specs.Bits.{range, at_front, max_bits}
 use Rattle.strings.specs.Bits.{Bytes}
-use Rattle.strings.specs.laws.RangeLaws.{range_length}
+use Rattle.strings.proofs.laws.RangeLaws.{range_length}
 use Rattle.strings.specs.StringRule.{string_rule}
 use Rattle.strings.specs.Refusals.{refusal_number}
 use Rattle.strings.specs.Results.{Result, refusal, value}

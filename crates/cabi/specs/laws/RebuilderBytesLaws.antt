@@ -32,7 +32,7 @@ use Rattle.ends.specs.declared.rebuilding.StartOut.{StartOut}
 use Rattle.ends.specs.declared.rebuilding.RebuilderAnswer.TheVariants.{Refused}
 use Rattle.ends.specs.declared.rebuilding.RebuilderOut.{RebuilderOut}
 use Rattle.ends.specs.RebuilderOutcome.{start_said, StartSaid, said_start, leaves_start, call_said, RebuilderSaid, said_rebuilder, next_size, leaves_rebuilder}
-use Rattle.ends.specs.code.SheetCallLaws.{change-fits}
+use Rattle.ends.proofs.code.SheetCallLaws.{change-fits}
 use Rattle.layout.specs.Layout.{rebuilder_size, rebuilder_bytes, rebuilder_of, is_rebuilder}
 use Rattle.layout.specs.laws.LayoutLaws.{length-rebuilder}
 use Rattle.layout.specs.Sheet.{row_size, sheet_bytes_after}

@@ -7,7 +7,7 @@ use Rattle.std.proofs.Math.Arith.{lt-one}
 use Rattle.std.specs.Int.Bits.{bit_xor, differ, xor_zero_l, xor_zero_r, xor_self}
 use Rattle.std.proofs.lemmas.Nat.{xor_comm, xor_lt, xor_shr}
 use Rattle.std.proofs.lemmas.Bool.{eqb-false}
-use Rattle.strings.specs.laws.BitLaws.{xor-odd}
+use Rattle.strings.proofs.laws.BitLaws.{xor-odd}
 use Rattle.codes.specs.Repair.{insert_at}
 use Rattle.codes.specs.laws.RepairLaws.{length-insert}
 use Rattle.codes.specs.code.Place.{ones}

@@ -9,8 +9,8 @@ use Rattle.std.proofs.Math.Decide.{dec_le}
 use native.Mathlib.Omega.{arith}
 use mir.Val.{bool_byte}
 use Rattle.strings.specs.Bits.{bit_at, range, byte_bits, write_bits, Bytes, Part}
-use Rattle.strings.specs.laws.WriteLaws.{write-none, write-append}
-use Rattle.strings.specs.laws.ByteLaws.{eight-whole, byte-stored}
+use Rattle.strings.proofs.laws.WriteLaws.{write-none, write-append}
+use Rattle.strings.proofs.laws.ByteLaws.{eight-whole, byte-stored}
 use Rattle.codes.specs.Columns.{column, column_length}
 use Rattle.codes.specs.Listing.{number_of}
 use Rattle.codes.specs.code.Strides.{strided, StridedPart}

@@ -4,8 +4,8 @@ use Rattle.std.proofs.Common.{sym, ap, ap₂, ◌∙◌, suc-mul, add-zero, div-
 use Rattle.std.proofs.Math.Nat.{div-eq_of_lt}
 use Rattle.std.proofs.Math.Decide.{dec_le}
 use Rattle.strings.specs.Bits.{bit_at, max_bits, range, set_bit, write_bits, Part}
-use Rattle.strings.specs.laws.RangeLaws.{range_length, range_at}
-use Rattle.strings.specs.laws.WriteLaws.{length-write_bits, write-next, write-inside}
+use Rattle.strings.proofs.laws.RangeLaws.{range_length, range_at}
+use Rattle.strings.proofs.laws.WriteLaws.{length-write_bits, write-next, write-inside}
 use Rattle.codes.specs.Columns.{column, column_length}
 use Rattle.codes.specs.Syndrome.{syndrome}
 use Rattle.codes.specs.laws.ColumnLaws.{column-drop, column-first, column-length, column-length-behind}

@@ -4,8 +4,8 @@ use Rattle.std.proofs.Math.Path.{sym}
 use Rattle.std.proofs.Common.{ap, ap₂, ◌∙◌, subst, arith}
 use Rattle.std.proofs.Math.Option.{Option, none, some}
 use Rattle.strings.specs.Bits.{range, set_bit, write_bits}
-use Rattle.strings.specs.laws.RangeLaws.{range_length, range-take, range-drop}
-use Rattle.strings.specs.laws.WriteLaws.{write-next, write-append}
+use Rattle.strings.proofs.laws.RangeLaws.{range_length, range-take, range-drop}
+use Rattle.strings.proofs.laws.WriteLaws.{write-next, write-append}
 use Rattle.codes.specs.Repair.{without, insert_at, put_in, take_out}
 use Rattle.codes.specs.laws.RepairLaws.{length-insert, length_without, put-place-within, put-in-filled, put-in-above}
 use Rattle.codes.specs.code.Place.{put_place, put_bit, filled, take_place}

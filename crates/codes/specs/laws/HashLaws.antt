@@ -6,7 +6,7 @@ use Rattle.std.proofs.Math.Arith.{bin_ind}
 use Rattle.std.proofs.Math.Pow.{pow-lt}
 use Rattle.std.proofs.lemmas.Nat.{shr_le, xor_shr, xor_lt, xor_mod}
 use Rattle.std.specs.Int.Bits.{bit_xor, differ, xor_step, xor_zero_l, xor_zero_r}
-use Rattle.strings.specs.laws.BitLaws.{xor-odd}
+use Rattle.strings.proofs.laws.BitLaws.{xor-odd}
 use Rattle.codes.specs.Hash.{xor_left, xor_right, xorshift, hash_row, hash_from, hash}
 use Rattle.codes.specs.code.HashForms.{hash_rows, whole_hash, Went}
 

@@ -4,9 +4,9 @@ use Rattle.std.proofs.Common.{sym, ap, ap₂, ◌∙◌, subst, inl, inr, add-ze
 use Rattle.std.proofs.Math.Decide.{dec_lt}
 use mir.Val.{bool_byte}
 use Rattle.strings.specs.Bits.{bit_at, range, set_bit, write_bits}
-use Rattle.strings.specs.laws.BitLaws.{set_bit-other}
-use Rattle.strings.specs.laws.RangeLaws.{range_length, range-step, range-add, range-take, range-drop, range_none, range_same}
-use Rattle.strings.specs.laws.WriteLaws.{write-next, write-append, write-none}
+use Rattle.strings.proofs.laws.BitLaws.{set_bit-other}
+use Rattle.strings.proofs.laws.RangeLaws.{range_length, range-step, range-add, range-take, range-drop, range_none, range_same}
+use Rattle.strings.proofs.laws.WriteLaws.{write-next, write-append, write-none}
 use Rattle.codes.specs.Markers.{is_power, message_bits, merged, check_number, message}
 use Rattle.codes.specs.code.MarkerBlocks.{powers_in, others_in, Block, powers_from, others_from, merged_from, number_from, message_from}
 use Rattle.codes.specs.laws.PowerLaws.{power_pos, power-between}

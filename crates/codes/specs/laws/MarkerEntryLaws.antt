@@ -14,9 +14,9 @@ use Rattle.strings.specs.Bits.{range, bytes_for, pack, at_front, write_bits}
 use Rattle.strings.specs.StringRule.{string_rule}
 use Rattle.strings.specs.Results.{value}
 use Rattle.strings.specs.declared.Refusal.TheVariants.{BadString, OutOfRange, BufferTooShort, MessageLength}
-use Rattle.strings.specs.laws.BitLaws.{bit-front}
-use Rattle.strings.specs.laws.RangeLaws.{range_length, range-equal}
-use Rattle.strings.specs.laws.PackLaws.{length-pack, pack-bits, front-write}
+use Rattle.strings.proofs.laws.BitLaws.{bit-front}
+use Rattle.strings.proofs.laws.RangeLaws.{range_length, range-equal}
+use Rattle.strings.proofs.laws.PackLaws.{length-pack, pack-bits, front-write}
 use Rattle.strings.specs.laws.Tests.{and_left, and_right}
 use Rattle.codes.specs.Syndrome.{weighted_sum, syndrome}
 use Rattle.codes.specs.Repair.{OneApart, repair_to}

@@ -14,7 +14,7 @@ use borrow.Author.Tests.{le-leb, lt-leb, leb-true, eq-eqb, ne_eqb, eqb-true, eqb
 use mir.Val.{bool_byte}
 use Rattle.strings.specs.Bits.{range, byte_bits, Eight}
 use Rattle.strings.specs.laws.Tests.{true-false}
-use Rattle.strings.specs.laws.RangeLaws.{rest, range-add}
+use Rattle.strings.proofs.laws.RangeLaws.{rest, range-add}
 use Rattle.codes.specs.Syndrome.{weighted_sum, syndrome}
 use Rattle.codes.specs.laws.SyndromeLaws.{weighted-sum-without, ones-next, ones-zeros, ones-append, ones-drop, ones-drop-most, place-ones, syndrome-most}
 use Rattle.codes.specs.Repair.{without, take_out}

@@ -12,8 +12,8 @@ use Rattle.std.proofs.Math.ListN.{get_or-append}
 use Rattle.std.proofs.lemmas.List.{get_or_at}
 use Rattle.std.proofs.lemmas.Bool.{lt-leb}
 use Rattle.strings.specs.Bits.{bit_at, range, set_bit, write_bits}
-use Rattle.strings.specs.laws.RangeLaws.{range_length, range_at}
-use Rattle.strings.specs.laws.WriteLaws.{write-next, write-append}
+use Rattle.strings.proofs.laws.RangeLaws.{range_length, range_at}
+use Rattle.strings.proofs.laws.WriteLaws.{write-next, write-append}
 use Rattle.codes.specs.Hash.{hash}
 use Rattle.codes.specs.Repair.{without, insert_at, repair_to}
 use Rattle.codes.specs.Columns.{column, column_length, repair_run, RunApart}

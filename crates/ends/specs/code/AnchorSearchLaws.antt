@@ -12,8 +12,8 @@ use borrow.Author.Tests.{leb-true, leb-false, le-leb, lt-leb}
 use Rattle.strings.specs.Bits.{range, bit_at, same_bits, max_bits}
 use Rattle.strings.specs.StringRule.{string_rule}
 use Rattle.strings.specs.SettingLimits.{anchor_limits, factor_limits}
-use Rattle.strings.specs.laws.RuleLaws.{rule-is}
-use Rattle.strings.specs.laws.RangeLaws.{range_length, range_at, range-equal, range-part, same_refl, same-is}
+use Rattle.strings.proofs.laws.RuleLaws.{rule-is}
+use Rattle.strings.proofs.laws.RangeLaws.{range_length, range_at, range-equal, range-part, same_refl, same-is}
 use Rattle.strings.specs.laws.Tests.{true-false, and_left, and_right}
 use Rattle.strings.specs.Results.{Result, refusal, value}
 use Rattle.strings.specs.Refusals.{refusal_number}

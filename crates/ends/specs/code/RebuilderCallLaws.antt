@@ -11,8 +11,8 @@ use Rattle.strings.specs.Results.{Result, refusal, value, and_then}
 use Rattle.strings.specs.laws.Tests.{and_left, and_right, true-false}
 use Rattle.strings.specs.Bits.{range, write_bits, cleared, bytes_for, Part, at_front}
 use Rattle.strings.specs.StringRule.{string_rule}
-use Rattle.strings.specs.laws.RuleLaws.{rule-is}
-use Rattle.strings.specs.laws.RangeLaws.{range_length}
+use Rattle.strings.proofs.laws.RuleLaws.{rule-is}
+use Rattle.strings.proofs.laws.RangeLaws.{range_length}
 use Rattle.strings.specs.Bits.{Bytes}
 use Rattle.strings.specs.declared.Refusal.{Refusal}
 use Rattle.strings.specs.declared.Refusal.TheVariants.{BadSetting, BadString, OutOfTurn, BufferTooShort}

@@ -9,7 +9,7 @@ use Rattle.strings.specs.Results.{Result, value}
 use Rattle.codes.specs.laws.TrialLaws.{agreed-some, agreed-none, tried-settled, tried-left}
 use Rattle.codes.specs.Trials.{agreeing, tried_at}
 use Rattle.strings.specs.Bits.{range, write_bits, Part, at_front, max_bits}
-use Rattle.strings.specs.laws.RangeLaws.{range_length}
+use Rattle.strings.proofs.laws.RangeLaws.{range_length}
 use Rattle.codes.specs.Hash.{hash}
 use Rattle.codes.specs.Repair.{repair_to, OneApart}
 use Rattle.codes.specs.laws.RepairLaws.{repair-put-in, repair-take-out}

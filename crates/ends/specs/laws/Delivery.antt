@@ -27,10 +27,10 @@ use Rattle.strings.specs.declared.settings.Settings.{Settings}
 use Rattle.ends.specs.declared.SheetChange.{SheetChange}
 use Rattle.ends.specs.declared.SheetChange.TheVariants.{AddRow, NoRow, OneRow}
 use Rattle.strings.specs.Bits.{bytes_for, range, max_bits}
-use Rattle.strings.specs.laws.PackLaws.{length-cleared}
+use Rattle.strings.proofs.laws.PackLaws.{length-cleared}
 use Rattle.strings.specs.StringRule.{string_rule}
 use Rattle.strings.specs.laws.Tests.{by-test}
-use Rattle.strings.specs.laws.WriteLaws.{length-write_bits}
+use Rattle.strings.proofs.laws.WriteLaws.{length-write_bits}
 use Rattle.strings.specs.declared.Refusal.TheVariants.{BadSetting, BadString, BufferTooShort}
 use Rattle.ends.specs.declared.Stage.TheVariants.{Hashing, PuttingIn, TakingOut, Anchor, AllBits, Columns}
 use Rattle.ends.specs.declared.Stage.{Stage}

@@ -20,7 +20,7 @@ use Rattle.ends.specs.Runs.{answer}
 use Rattle.ends.specs.Soundness.{holder_sound, most_answers}
 use Rattle.ends.specs.declared.Holder.{Holder}
 use Rattle.strings.specs.Bits.{range, max_bits}
-use Rattle.strings.specs.laws.RuleLaws.{rule-is}
+use Rattle.strings.proofs.laws.RuleLaws.{rule-is}
 use Rattle.strings.specs.StringRule.{string_rule}
 use Rattle.strings.specs.laws.Tests.{and_left, both, and_right}
 use Rattle.strings.specs.declared.Refusal.TheVariants.{BadString, BufferTooShort, OutOfTurn}

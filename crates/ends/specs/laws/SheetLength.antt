@@ -9,7 +9,7 @@ use Rattle.ends.specs.RebuilderCall.{Capacities, Step, bits_known, change_row, e
 use Rattle.ends.specs.Segments.{Effect, effect, how_number, settles, splits, stays}
 use Rattle.messages.specs.Answers.{Answer}
 use Rattle.ends.specs.laws.SoundParts.{Framed, PhaseOf, is_opening, is_pieces, is_whole, phase-of, sound-is, top-is}
-use Rattle.strings.specs.laws.RangeLaws.{range_length}
+use Rattle.strings.proofs.laws.RangeLaws.{range_length}
 use Rattle.ends.specs.laws.Counts.{Sane, sane}
 use Rattle.ends.specs.laws.Right.{StageOk}
 use Rattle.ends.specs.laws.SoundLaws.{fits-stage}

@@ -28,7 +28,7 @@ use Rattle.ends.specs.declared.Piece.{Piece}
 use Rattle.ends.specs.declared.Rebuilder.{Rebuilder}
 use Rattle.strings.specs.declared.settings.Settings.{Settings}
 use Rattle.strings.specs.Bits.{range, max_bits}
-use Rattle.strings.specs.laws.RangeLaws.{range_length}
+use Rattle.strings.proofs.laws.RangeLaws.{range_length}
 use Rattle.strings.specs.laws.Tests.{by-test}
 use Rattle.ends.specs.laws.SoundParts.{StackIs, Framed, sound-is, is-sound, PiecesIs, is-pieces, WholeIs, is-whole, phase-pieces, phase-whole, OpeningIs, top-is, ask-inside, PhaseOf, phase-of, is_opening, is_pieces, is_whole}
 use Rattle.ends.specs.declared.Stage.TheVariants.{Hashing, PuttingIn, TakingOut, Anchor, AllBits, Columns}

@@ -24,9 +24,9 @@ use Rattle.ends.specs.declared.Rebuilder.{Rebuilder}
 use Rattle.ends.specs.declared.Row.{Row}
 use Rattle.strings.specs.declared.settings.Settings.{Settings}
 use Rattle.strings.specs.Bits.{at_front, bytes_for, cleared, pack, write_bits}
-use Rattle.strings.specs.laws.PackLaws.{front-cleared, front-write, length_over}
+use Rattle.strings.proofs.laws.PackLaws.{front-cleared, front-write, length_over}
 use Rattle.strings.specs.laws.StoreLaws.{sets-front}
-use Rattle.strings.specs.laws.WriteLaws.{over}
+use Rattle.strings.proofs.laws.WriteLaws.{over}
 use Rattle.ends.specs.declared.Phase.TheVariants.{AtWhole, AtPieces}
 use Rattle.ends.specs.declared.Stage.{Stage}
 use Rattle.ends.specs.declared.Stage.TheVariants.{Hashing}

@@ -31,8 +31,8 @@ use Rattle.ends.specs.declared.Rebuilder.{Rebuilder}
 use Rattle.ends.specs.declared.Row.{Row}
 use Rattle.strings.specs.declared.settings.Settings.{Settings}
 use Rattle.strings.specs.Bits.{at_front, bytes_for, pack, range}
-use Rattle.strings.specs.laws.PackLaws.{pack-none}
-use Rattle.strings.specs.laws.RangeLaws.{range-part}
+use Rattle.strings.proofs.laws.PackLaws.{pack-none}
+use Rattle.strings.proofs.laws.RangeLaws.{range-part}
 use Rattle.strings.specs.laws.Tests.{true-false}
 use Rattle.ends.specs.declared.Phase.{Phase}
 use Rattle.ends.specs.declared.Phase.TheVariants.{AtOpening, AtPieces, AtWhole}

@@ -29,7 +29,7 @@ use Rattle.ends.specs.declared.Piece.{Piece}
 use Rattle.ends.specs.declared.Row.{Row}
 use Rattle.strings.specs.declared.settings.Settings.{Settings}
 use Rattle.strings.specs.laws.Tests.{by-test, true-false}
-use Rattle.strings.specs.laws.WriteLaws.{over}
+use Rattle.strings.proofs.laws.WriteLaws.{over}
 use Rattle.ends.specs.declared.Stage.TheVariants.{Anchor, AllBits, Hashing, PuttingIn, TakingOut, Columns}
 use Rattle.ends.specs.declared.Phase.{Phase}
 use Rattle.ends.specs.declared.Phase.TheVariants.{AtOpening, AtPieces, AtWhole}

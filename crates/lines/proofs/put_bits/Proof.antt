@@ -6,7 +6,7 @@ use borrow.Author.Rules.{rules}
 use lib.ListN.{length, length-set}
 use lib.Seq.{sets}
 use Rattle.strings.specs.Bits.{range}
-use Rattle.strings.specs.laws.RangeLaws.{rest, rest-first}
+use Rattle.strings.proofs.laws.RangeLaws.{rest, rest-first}
 use Rattle.lines.specs.Printing.{bit_bytes}
 use Rattle.lines.specs.laws.PrintLaws.{text-next, text-last, text-whole}
 use Rattle.lines.proofs.put_bits.Statement.{statement}

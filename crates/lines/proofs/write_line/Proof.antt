@@ -3,7 +3,7 @@ use mathlib.Core.Path.{◌≡◌, refl, ap, ◌∙◌}
 use borrow.Author.Rules.{rules}
 use lib.ListN.{length, drop}
 use Rattle.strings.specs.Bits.{write_bits}
-use Rattle.strings.specs.laws.BitLaws.{length-set_bit}
+use Rattle.strings.proofs.laws.BitLaws.{length-set_bit}
 use Rattle.lines.specs.StringLine.{line_bits}
 use Rattle.lines.specs.laws.StringLaws.{line-next, line-last}
 use Rattle.lines.proofs.write_line.Statement.{statement}

@@ -5,8 +5,8 @@ use Rattle.std.proofs.Common.{◌∙◌, add-one, drop_of_length-le, drop-cons}
 use mathlib.Core.List.{List, [], ◌∷◌}
 use borrow.Author.Tests.{eq-eqb, ne_eqb, lt-leb, le-leb}
 use Rattle.strings.specs.Bits.{max_bits, bytes_for, pack, set_bit, write_bits, cleared, at_front}
-use Rattle.strings.specs.laws.WriteLaws.{write-none, write-next}
-use Rattle.strings.specs.laws.PackLaws.{packed-into}
+use Rattle.strings.proofs.laws.WriteLaws.{write-none, write-next}
+use Rattle.strings.proofs.laws.PackLaws.{packed-into}
 use Rattle.lines.specs.declared.FieldFound.{FieldFound}
 use Rattle.lines.specs.declared.FieldFound.TheVariants.{Spans, Missing}
 use Rattle.lines.specs.declared.StringRead.TheVariants.{Packed, NotBits, BufferTooShort}

@@ -13,10 +13,10 @@ use Rattle.strings.specs.StringRule.{string_rule, IsString}
 use Rattle.strings.specs.Refusals.{refusal_number}
 use Rattle.strings.specs.Results.{Result, refusal, value, unless}
 use Rattle.strings.specs.laws.Tests.{and_left, and_right, and-true}
-use Rattle.strings.specs.laws.RangeLaws.{range_length, range-behind}
-use Rattle.strings.specs.laws.RuleLaws.{rule-is, is-rule}
+use Rattle.strings.proofs.laws.RangeLaws.{range_length, range-behind}
+use Rattle.strings.proofs.laws.RuleLaws.{rule-is, is-rule}
 use Rattle.strings.specs.Bits.{Bytes}
-use Rattle.strings.specs.laws.PackLaws.{length-pack, pack-bits, pack-string, string-packed}
+use Rattle.strings.proofs.laws.PackLaws.{length-pack, pack-bits, pack-string, string-packed}
 use Rattle.strings.specs.laws.ResultLaws.{unless-passed, then-passed}
 use Rattle.strings.specs.declared.Refusal.TheVariants.{Truncated, BadKind, TrailingBytes, OutOfRange}
 use Rattle.codes.specs.Columns.{column_length}

@@ -5,9 +5,9 @@ use Rattle.std.proofs.Common.{sym, ap, ap₂, ◌∙◌, append-nil, append_asso
 use Rattle.std.proofs.lemmas.List.Edits.{sets, sets-eq}
 use Rattle.std.proofs.lemmas.Bool.{lt-leb}
 use Rattle.strings.specs.Bits.{range, bytes_for, pack, cleared, write_bits, at_front}
-use Rattle.strings.specs.laws.RangeLaws.{range_length}
+use Rattle.strings.proofs.laws.RangeLaws.{range_length}
 use Rattle.strings.specs.laws.StoreLaws.{sets-append, sets-front}
-use Rattle.strings.specs.laws.PackLaws.{write-cleared}
+use Rattle.strings.proofs.laws.PackLaws.{write-cleared}
 use Rattle.strings.specs.Refusals.{refusal_number}
 use Rattle.strings.specs.declared.Refusal.TheVariants.{BufferTooShort}
 use Rattle.strings.specs.laws.ResultLaws.{no_value, value-is}

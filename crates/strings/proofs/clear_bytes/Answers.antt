@@ -4,7 +4,7 @@ use native.Mathlib.Omega.{arith}
 use lib.ListN.{length-set}
 use lib.Seq.{sets}
 use Rattle.strings.specs.Bits.{cleared, zero_bytes}
-use Rattle.strings.specs.laws.WriteLaws.{clear_next, clear-last}
+use Rattle.strings.proofs.laws.WriteLaws.{clear_next, clear-last}
 use Rattle.strings.proofs.clear_bytes.Goals as goal
 
 pub loop-i-init : goal.loop-i-init

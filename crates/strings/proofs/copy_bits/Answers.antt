@@ -1,6 +1,6 @@
 use Prim.Native.Nat.{◌-◌, ◌/◌, ◌%◌}
 use native.Mathlib.Omega.{arith}
-use Rattle.strings.specs.laws.ByteLaws.{copy-three}
+use Rattle.strings.proofs.laws.ByteLaws.{copy-three}
 use Rattle.strings.proofs.copy_bits.Goals as goal
 
 pub returns : goal.returns

@@ -2,8 +2,8 @@ use mathlib.Core.Path.{refl, ◌∙◌}
 use Prim.Native.Nat.{◌+◌, ◌-◌}
 use native.Mathlib.Omega.{arith}
 use lib.ListN.{length-set}
-use Rattle.strings.specs.laws.PackLaws.{set-bytes}
-use Rattle.strings.specs.laws.ByteLaws.{bytes-first, bytes_next, bytes-last}
+use Rattle.strings.proofs.laws.PackLaws.{set-bytes}
+use Rattle.strings.proofs.laws.ByteLaws.{bytes-first, bytes_next, bytes-last}
 use Rattle.strings.proofs.copy_bytes.Goals as goal
 
 pub loop-i-init : goal.loop-i-init

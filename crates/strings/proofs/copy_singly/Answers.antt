@@ -3,9 +3,9 @@ use Prim.Native.Nat.{◌+◌, ◌-◌}
 use native.Mathlib.Omega.{arith}
 use lib.ListN.{length}
 use Rattle.strings.specs.Bits.{write_bits}
-use Rattle.strings.specs.laws.BitLaws.{length-set_bit}
-use Rattle.strings.specs.laws.RangeLaws.{rest-first, rest-last}
-use Rattle.strings.specs.laws.WriteLaws.{copy-next, write-none}
+use Rattle.strings.proofs.laws.BitLaws.{length-set_bit}
+use Rattle.strings.proofs.laws.RangeLaws.{rest-first, rest-last}
+use Rattle.strings.proofs.laws.WriteLaws.{copy-next, write-none}
 use Rattle.strings.proofs.copy_singly.Goals as goal
 
 pub loop-i-init : goal.loop-i-init

@@ -2,7 +2,7 @@ use mathlib.Core.Path.{◌≡◌}
 use Prim.Native.Nat.{◌+◌, ◌-◌, ◌≤◌}
 use lib.ListN.{length}
 use Rattle.strings.specs.Bits.{range, write_bits}
-use Rattle.strings.specs.laws.RangeLaws.{rest}
+use Rattle.strings.proofs.laws.RangeLaws.{rest}
 use Rattle.strings.proofs.copy_singly.Given as goal
 
 abbrev pub invariant-loop-i : goal.invariant-loop-i

@@ -1,5 +1,5 @@
 use Prim.Native.Nat.{◌-◌}
-use Rattle.strings.specs.laws.ByteLaws.{eight-whole, eight-joined}
+use Rattle.strings.proofs.laws.ByteLaws.{eight-whole, eight-joined}
 use Rattle.strings.proofs.eight_bits.Goals as goal
 
 pub returns-then-k-eq0 : goal.returns-then-k-eq0

@@ -4,8 +4,8 @@ use Prim.Native.Nat.{ℕ, ◌-◌, ◌*◌, ◌%◌, ◌^◌, ◌<◌}
 use lib.Dec.{eqb}
 use native.Mathlib.Omega.{arith}
 use lib.Pow.{pow_pos}
-use Rattle.strings.specs.laws.BitLaws.{one_shl}
-use Rattle.strings.specs.laws.RuleLaws.{rule-many, rule-length, rule-even, rule-odd}
+use Rattle.strings.proofs.laws.BitLaws.{one_shl}
+use Rattle.strings.proofs.laws.RuleLaws.{rule-many, rule-length, rule-even, rule-odd}
 use Rattle.strings.proofs.keeps_string_rule.Goals as goal
 
 pub returns-then-bits-gt-MAX_BITS : goal.returns-then-bits-gt-MAX_BITS

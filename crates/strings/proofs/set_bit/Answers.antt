@@ -1,5 +1,5 @@
 use Prim.Native.Nat.{◌-◌}
-use Rattle.strings.specs.laws.BitLaws.{set-turned}
+use Rattle.strings.proofs.laws.BitLaws.{set-turned}
 use Rattle.strings.proofs.set_bit.Goals as goal
 
 pub returns : goal.returns

@@ -3,7 +3,7 @@ use mathlib.Core.Path.{ap, ◌∙◌}
 use Prim.Native.Nat.{◌*◌, ◌/◌}
 use native.Mathlib.Omega.{arith}
 use lib.ListN.{length}
-use Rattle.strings.specs.laws.WriteLaws.{length-write_bits}
+use Rattle.strings.proofs.laws.WriteLaws.{length-write_bits}
 use Rattle.codes.specs.laws.ColumnByteLaws.{bytes-within, column-part, column-left, column-joined}
 use Rattle.codes.proofs.columns.copy_column.Goals as goal
 

@@ -2,7 +2,7 @@ use mathlib.Core.Path.{refl, ◌∙◌}
 use Prim.Native.Nat.{◌-◌}
 use native.Mathlib.Omega.{arith}
 use lib.ListN.{length-set}
-use Rattle.strings.specs.laws.PackLaws.{set-bytes}
+use Rattle.strings.proofs.laws.PackLaws.{set-bytes}
 use Rattle.codes.specs.laws.ColumnByteLaws.{part-first, part-next, groups-first, groups-next, groups-last}
 use Rattle.codes.proofs.columns.copy_groups.Goals as goal
 

@@ -3,9 +3,9 @@ use Prim.Native.Nat.{◌-◌}
 use native.Mathlib.Omega.{arith}
 use lib.ListN.{length}
 use Rattle.strings.specs.Bits.{range, write_bits}
-use Rattle.strings.specs.laws.BitLaws.{length-set_bit}
-use Rattle.strings.specs.laws.RangeLaws.{range_length}
-use Rattle.strings.specs.laws.WriteLaws.{write-none}
+use Rattle.strings.proofs.laws.BitLaws.{length-set_bit}
+use Rattle.strings.proofs.laws.RangeLaws.{range_length}
+use Rattle.strings.proofs.laws.WriteLaws.{write-none}
 use Rattle.codes.specs.Columns.{column_length}
 use Rattle.codes.specs.laws.ColumnLaws.{column-length}
 use Rattle.codes.specs.laws.ColumnReadLaws.{column-rest-first, column-rest-last, column-turn, column-copied}

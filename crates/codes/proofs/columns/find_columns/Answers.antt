@@ -3,7 +3,7 @@ use Prim.Native.Nat.{◌-◌}
 use native.Mathlib.Omega.{arith}
 use lib.ListN.{length-set, length}
 use borrow.Author.Tests.{not-true, not-false}
-use Rattle.strings.specs.laws.RangeLaws.{range_length}
+use Rattle.strings.proofs.laws.RangeLaws.{range_length}
 use Rattle.strings.specs.Bits.{range}
 use Rattle.codes.specs.laws.ColumnEditLaws.{placed_first, placed-next, edits-next, run-nothing, run-found, apart-range}
 use borrow.Author.Rules.{rules}

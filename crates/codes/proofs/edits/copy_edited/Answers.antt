@@ -2,7 +2,7 @@
 use mathlib.Core.Path.{ap, ◌∙◌}
 use native.Mathlib.Omega.{arith}
 use Rattle.strings.specs.Bits.{range, write_bits}
-use Rattle.strings.specs.laws.RangeLaws.{range_length}
+use Rattle.strings.proofs.laws.RangeLaws.{range_length}
 use Rattle.codes.specs.laws.EditLaws.{as-put, as-take, edited-as}
 use Rattle.codes.proofs.edits.copy_edited.Goals as goal
 

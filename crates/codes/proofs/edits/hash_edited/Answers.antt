@@ -1,7 +1,7 @@
 -- `codes::hash_edited` meets its contract: one law of specs/laws/EditLaws.antt for each arm. Assumes nothing.
 use mathlib.Core.Path.{ap, ◌∙◌}
 use Rattle.strings.specs.Bits.{range}
-use Rattle.strings.specs.laws.RangeLaws.{range_length}
+use Rattle.strings.proofs.laws.RangeLaws.{range_length}
 use Rattle.codes.specs.Hash.{hash}
 use Rattle.codes.specs.laws.EditLaws.{as-put, as-take, edited-as}
 use Rattle.codes.proofs.edits.hash_edited.Goals as goal

@@ -4,7 +4,7 @@ use mathlib.Core.List.{List}
 use Prim.Native.Nat.{ℕ}
 use native.Mathlib.Omega.{arith}
 use Rattle.strings.specs.Bits.{range, write_bits}
-use Rattle.strings.specs.laws.PackLaws.{packed-into}
+use Rattle.strings.proofs.laws.PackLaws.{packed-into}
 use Rattle.codes.specs.code.Edits.{edited}
 use borrow.Author.Rules.{rules}
 use Rattle.codes.proofs.edits.pack_edited.Goals as goal

@@ -4,7 +4,7 @@ use mathlib.Core.Option.{none, some}
 use native.Mathlib.Omega.{arith}
 use lib.ListN.{length}
 use Rattle.strings.specs.Bits.{range}
-use Rattle.strings.specs.laws.RangeLaws.{range_length}
+use Rattle.strings.proofs.laws.RangeLaws.{range_length}
 use Rattle.codes.specs.declared.entries.RepairAnswer.TheVariants.{Done}
 use Rattle.codes.specs.code.Edits.{edited}
 use Rattle.codes.specs.Entries.{repair_left, said_repair}

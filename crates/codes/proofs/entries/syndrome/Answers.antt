@@ -2,7 +2,7 @@
 use mathlib.Core.Path.{sym, ◌∙◌}
 use native.Mathlib.Omega.{arith}
 use Rattle.strings.specs.Bits.{range}
-use Rattle.strings.specs.laws.RangeLaws.{range_length}
+use Rattle.strings.proofs.laws.RangeLaws.{range_length}
 use Rattle.codes.specs.laws.SyndromeLaws.{syndrome-most}
 use Rattle.codes.specs.laws.EntryLaws.{whole_part, string-few, syndrome-bad-string, syndrome-value}
 use Rattle.codes.proofs.entries.syndrome.Goals as goal

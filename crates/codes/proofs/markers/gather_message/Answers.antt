@@ -2,7 +2,7 @@ use mathlib.Core.Path.{refl, ap, ◌∙◌}
 use native.Mathlib.Omega.{arith}
 use lib.ListN.{length}
 use Rattle.strings.specs.Bits.{write_bits}
-use Rattle.strings.specs.laws.WriteLaws.{length-write_bits}
+use Rattle.strings.proofs.laws.WriteLaws.{length-write_bits}
 use Rattle.codes.specs.laws.PowerLaws.{power-one, power-double}
 use Rattle.codes.specs.laws.MarkerBlockLaws.{others-block, gather-turn, others-first, message-first, message-last}
 use borrow.Author.Rules.{rules}

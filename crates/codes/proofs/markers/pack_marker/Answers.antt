@@ -4,8 +4,8 @@ use mathlib.Core.List.{List}
 use Prim.Native.Nat.{ℕ}
 use native.Mathlib.Omega.{arith}
 use Rattle.strings.specs.Bits.{range, write_bits}
-use Rattle.strings.specs.laws.RangeLaws.{range_length}
-use Rattle.strings.specs.laws.PackLaws.{packed-into}
+use Rattle.strings.proofs.laws.RangeLaws.{range_length}
+use Rattle.strings.proofs.laws.PackLaws.{packed-into}
 use Rattle.codes.specs.Markers.{message_bits, merged}
 use Rattle.codes.specs.laws.MarkerLaws.{length_merged}
 use Rattle.codes.specs.laws.MarkerEntryLaws.{range-syndrome-most, marker-packed}

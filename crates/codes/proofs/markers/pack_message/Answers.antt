@@ -3,8 +3,8 @@ use mathlib.Core.Path.{ap, ◌∙◌}
 use mathlib.Core.List.{List}
 use Prim.Native.Nat.{ℕ}
 use Rattle.strings.specs.Bits.{range, write_bits, bytes_for, cleared}
-use Rattle.strings.specs.laws.RangeLaws.{range_length}
-use Rattle.strings.specs.laws.PackLaws.{packed-into}
+use Rattle.strings.proofs.laws.RangeLaws.{range_length}
+use Rattle.strings.proofs.laws.PackLaws.{packed-into}
 use Rattle.codes.specs.Markers.{message_bits, message}
 use Rattle.codes.specs.laws.MarkerLaws.{word-message}
 use Rattle.codes.specs.laws.MarkerEntryLaws.{message-bits-most}

@@ -5,7 +5,7 @@ use mathlib.Core.List.{List}
 use mathlib.Core.Option.{Option, none, some}
 use Rattle.strings.specs.Bits.{range}
 use Rattle.strings.specs.Results.{value}
-use Rattle.strings.specs.laws.RangeLaws.{range_length}
+use Rattle.strings.proofs.laws.RangeLaws.{range_length}
 use Rattle.codes.specs.Entries.{repair_left}
 use Rattle.codes.specs.code.Edits.{edited}
 use Rattle.codes.specs.laws.EditLaws.{found-is, found-fits, nothing_is}

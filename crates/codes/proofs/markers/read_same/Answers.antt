@@ -5,7 +5,7 @@ use mathlib.Core.List.{List}
 use mathlib.Core.Option.{Option}
 use Rattle.strings.specs.Bits.{range}
 use Rattle.strings.specs.Results.{value}
-use Rattle.strings.specs.laws.RangeLaws.{range_length}
+use Rattle.strings.proofs.laws.RangeLaws.{range_length}
 use Rattle.codes.specs.Entries.{repair_left}
 use Rattle.codes.specs.laws.MarkerEntryLaws.{read-wrong, read_right}
 use Rattle.codes.proofs.markers.read_same.Goals as goal

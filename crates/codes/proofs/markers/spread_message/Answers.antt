@@ -3,8 +3,8 @@ use Prim.Native.Nat.{◌-◌}
 use native.Mathlib.Omega.{arith}
 use lib.ListN.{length}
 use Rattle.strings.specs.Bits.{range, write_bits}
-use Rattle.strings.specs.laws.BitLaws.{length-set_bit}
-use Rattle.strings.specs.laws.WriteLaws.{length-write_bits}
+use Rattle.strings.proofs.laws.BitLaws.{length-set_bit}
+use Rattle.strings.proofs.laws.WriteLaws.{length-write_bits}
 use Rattle.codes.specs.code.MarkerBlocks.{others_from}
 use Rattle.codes.specs.laws.PowerLaws.{power-one, power-double}
 use Rattle.codes.specs.laws.MarkerBlockLaws.{others-block, spread-turn, others-first, spread-first, merged-last}

@@ -3,7 +3,7 @@ use Prim.Native.Nat.{◌-◌}
 use native.Mathlib.Omega.{arith}
 use lib.ListN.{length}
 use Rattle.strings.specs.Bits.{write_bits}
-use Rattle.strings.specs.laws.BitLaws.{length-set_bit}
+use Rattle.strings.proofs.laws.BitLaws.{length-set_bit}
 use Rattle.codes.specs.code.MarkerBlocks.{message_from}
 use Rattle.codes.specs.laws.PowerLaws.{power-one, power-double}
 use Rattle.codes.specs.laws.MarkerBlockLaws.{digit-next, digits-first, merged-last}

@@ -1,6 +1,6 @@
 -- `codes::find_put` meets its contract. Assumes nothing.
 use Rattle.strings.specs.Bits.{range}
-use Rattle.strings.specs.laws.RangeLaws.{range_length}
+use Rattle.strings.proofs.laws.RangeLaws.{range_length}
 use Rattle.codes.specs.laws.EditLaws.{put-none}
 use Rattle.codes.proofs.places.find_put.Goals as goal
 

@@ -2,7 +2,7 @@
 use mathlib.Core.Path.{sym, ◌∙◌}
 use native.Mathlib.Omega.{arith}
 use Rattle.strings.specs.Bits.{range}
-use Rattle.strings.specs.laws.RangeLaws.{range_length}
+use Rattle.strings.proofs.laws.RangeLaws.{range_length}
 use Rattle.codes.specs.laws.RepairLaws.{repair-put-in, repair-take-out}
 use Rattle.codes.proofs.places.find_repair.Goals as goal
 

@@ -1,6 +1,6 @@
 -- `codes::find_take` meets its contract. Assumes nothing.
 use Rattle.strings.specs.Bits.{range}
-use Rattle.strings.specs.laws.RangeLaws.{range_length}
+use Rattle.strings.proofs.laws.RangeLaws.{range_length}
 use Rattle.codes.specs.laws.EditLaws.{take-repair, take_none}
 use Rattle.codes.proofs.places.find_take.Goals as goal
 

@@ -3,7 +3,7 @@ use mathlib.Core.Path.{sym, ap, ◌∙◌}
 use Prim.Native.Nat.{◌-◌}
 use native.Mathlib.Omega.{arith}
 use Rattle.strings.specs.Bits.{range}
-use Rattle.strings.specs.laws.RangeLaws.{range_length, range_at}
+use Rattle.strings.proofs.laws.RangeLaws.{range_length, range_at}
 use Rattle.codes.specs.code.Place.{one_place}
 use Rattle.codes.specs.laws.PlaceLaws.{one-out-below, one-out-none, one-out-found}
 use Rattle.codes.proofs.places.one_out.Goals as goal

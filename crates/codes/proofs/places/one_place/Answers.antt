@@ -2,7 +2,7 @@ use mathlib.Core.Path.{◌≡◌, ap, ◌∙◌}
 use Prim.Native.Nat.{◌+◌, ◌-◌}
 use native.Mathlib.Omega.{arith}
 use Rattle.strings.specs.Bits.{byte_bits}
-use Rattle.strings.specs.laws.RangeLaws.{rest-first}
+use Rattle.strings.proofs.laws.RangeLaws.{rest-first}
 use Rattle.codes.specs.code.Place.{ones, zeros, one_place}
 use Rattle.codes.specs.laws.SyndromeLaws.{ones-zeros}
 use Rattle.codes.specs.laws.PlaceLaws.{one-place-byte}

@@ -2,7 +2,7 @@
 use mathlib.Core.Path.{◌≡◌}
 use Prim.Native.Nat.{◌+◌, ◌-◌, ◌≤◌}
 use Rattle.strings.specs.Bits.{range}
-use Rattle.strings.specs.laws.RangeLaws.{rest}
+use Rattle.strings.proofs.laws.RangeLaws.{rest}
 use Rattle.codes.specs.code.Place.{one_place}
 use Rattle.codes.proofs.places.one_place.Given as goal
 

@@ -1,7 +1,7 @@
 use mathlib.Core.Path.{refl, ap, ◌∙◌}
 use mathlib.Core.Bool.{not}
 use native.Mathlib.Omega.{arith}
-use Rattle.strings.specs.laws.RangeLaws.{rest, rest-last, rest-is}
+use Rattle.strings.proofs.laws.RangeLaws.{rest, rest-last, rest-is}
 use Rattle.codes.specs.code.Place.{one_place}
 use Rattle.codes.specs.laws.SyndromeLaws.{bit-most}
 use Rattle.codes.specs.laws.PlaceLaws.{one-place-stop, one-place-empty, one-place-next}

@@ -1,7 +1,7 @@
 -- `codes::one_singly` meets its contract: i and the place in the rest, for the zeros left to pass, are what they were at the first turn. Assumes nothing.
 use mathlib.Core.Path.{◌≡◌}
 use Prim.Native.Nat.{◌+◌, ◌-◌, ◌≤◌}
-use Rattle.strings.specs.laws.RangeLaws.{rest}
+use Rattle.strings.proofs.laws.RangeLaws.{rest}
 use Rattle.codes.specs.code.Place.{one_place}
 use Rattle.codes.proofs.places.one_singly.Given as goal
 

@@ -1,7 +1,7 @@
 -- `codes::put_edit` meets its contract. Assumes nothing.
 use mathlib.Core.Bool.{true, false}
 use Rattle.strings.specs.Bits.{range}
-use Rattle.strings.specs.laws.RangeLaws.{range_length}
+use Rattle.strings.proofs.laws.RangeLaws.{range_length}
 use Rattle.codes.specs.laws.PlaceLaws.{lack-residue, put-zero, put_one}
 use Rattle.codes.specs.laws.EditLaws.{put-repair}
 use Rattle.codes.proofs.places.put_edit.Goals as goal

@@ -1,7 +1,7 @@
 -- `codes::take_place` meets its contract. Assumes nothing.
 use mathlib.Core.Path.{refl}
 use Rattle.strings.specs.Bits.{range}
-use Rattle.strings.specs.laws.RangeLaws.{range_length}
+use Rattle.strings.proofs.laws.RangeLaws.{range_length}
 use Rattle.codes.specs.Syndrome.{weighted_sum}
 use Rattle.codes.specs.laws.PlaceLaws.{zero-fall-is, take-place-above, take-place-zero, take-place-one}
 use Rattle.codes.proofs.places.take_place.Goals as goal

@@ -2,7 +2,7 @@
 use mathlib.Core.Path.{sym, ◌∙◌}
 use native.Mathlib.Omega.{arith}
 use Rattle.strings.specs.Bits.{range}
-use Rattle.strings.specs.laws.RangeLaws.{range_length, range_at}
+use Rattle.strings.proofs.laws.RangeLaws.{range_length, range_at}
 use Rattle.codes.specs.laws.PlaceLaws.{zero-out-above, zero-out-none, zero-out-found}
 use Rattle.codes.proofs.places.zero_out.Goals as goal
 

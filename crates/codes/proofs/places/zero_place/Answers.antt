@@ -1,7 +1,7 @@
 use mathlib.Core.Path.{◌≡◌, ap, ◌∙◌}
 use Prim.Native.Nat.{◌+◌}
 use native.Mathlib.Omega.{arith}
-use Rattle.strings.specs.laws.RangeLaws.{rest, rest-first}
+use Rattle.strings.proofs.laws.RangeLaws.{rest, rest-first}
 use Rattle.codes.specs.code.Place.{ones, zero_place}
 use Rattle.codes.specs.laws.PlaceLaws.{ones-byte-pass, zero-place-byte}
 use Rattle.codes.proofs.places.zero_place.Goals as goal

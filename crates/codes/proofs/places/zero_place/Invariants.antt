@@ -2,7 +2,7 @@
 use mathlib.Core.Path.{◌≡◌}
 use Prim.Native.Nat.{◌+◌, ◌-◌, ◌≤◌}
 use Rattle.strings.specs.Bits.{range}
-use Rattle.strings.specs.laws.RangeLaws.{rest}
+use Rattle.strings.proofs.laws.RangeLaws.{rest}
 use Rattle.codes.specs.code.Place.{ones, zero_place}
 use Rattle.codes.proofs.places.zero_place.Given as goal
 

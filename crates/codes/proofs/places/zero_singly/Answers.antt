@@ -1,6 +1,6 @@
 use mathlib.Core.Path.{refl, ap}
 use native.Mathlib.Omega.{arith}
-use Rattle.strings.specs.laws.RangeLaws.{rest, rest-last, rest-is}
+use Rattle.strings.proofs.laws.RangeLaws.{rest, rest-last, rest-is}
 use Rattle.codes.specs.code.Place.{zero_place}
 use Rattle.codes.specs.laws.SyndromeLaws.{ones-next}
 use Rattle.codes.specs.laws.PlaceLaws.{zero-place-stop, zero-place-next}

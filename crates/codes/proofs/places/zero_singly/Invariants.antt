@@ -1,7 +1,7 @@
 -- `codes::zero_singly` meets its contract: i and the place in the rest are what they were at the first turn. Assumes nothing.
 use mathlib.Core.Path.{◌≡◌}
 use Prim.Native.Nat.{◌+◌, ◌-◌, ◌≤◌}
-use Rattle.strings.specs.laws.RangeLaws.{rest}
+use Rattle.strings.proofs.laws.RangeLaws.{rest}
 use Rattle.codes.specs.code.Place.{ones, zero_place}
 use Rattle.codes.proofs.places.zero_singly.Given as goal
 

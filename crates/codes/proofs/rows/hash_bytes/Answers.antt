@@ -1,7 +1,7 @@
 use Prim.Native.Nat.{◌-◌}
 use native.Mathlib.Omega.{arith}
 use Rattle.strings.specs.Bits.{byte_bits}
-use Rattle.strings.specs.laws.ByteLaws.{eight-first, eight-next, eight-last}
+use Rattle.strings.proofs.laws.ByteLaws.{eight-first, eight-next, eight-last}
 use Rattle.codes.specs.laws.HashLaws.{went-first, went-last, went-next}
 use borrow.Author.Rules.{rules}
 use Rattle.codes.proofs.rows.hash_bytes.Goals as goal

@@ -2,7 +2,7 @@ use mathlib.Core.Path.{refl}
 use mathlib.Core.List.{[], ◌∷◌}
 use Prim.Native.Nat.{◌-◌}
 use native.Mathlib.Omega.{arith}
-use Rattle.strings.specs.laws.RangeLaws.{rest-first, rest-last, rest-is}
+use Rattle.strings.proofs.laws.RangeLaws.{rest-first, rest-last, rest-is}
 use Rattle.codes.specs.laws.HashLaws.{went-first, went-last, went-next}
 use borrow.Author.Rules.{rules}
 use Rattle.codes.proofs.rows.hash_singly.Goals as goal

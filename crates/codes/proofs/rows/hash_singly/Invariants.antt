@@ -3,7 +3,7 @@ use Prim.Native.Nat.{◌-◌, ◌≤◌}
 use lib.ListN.{length}
 use lib.Bits.{bit_xor}
 use Rattle.strings.specs.Bits.{range}
-use Rattle.strings.specs.laws.RangeLaws.{rest}
+use Rattle.strings.proofs.laws.RangeLaws.{rest}
 use Rattle.codes.specs.Hash.{hash_row}
 use Rattle.codes.specs.code.HashForms.{whole_hash, Went}
 use Rattle.codes.proofs.rows.hash_singly.Given as goal

@@ -2,7 +2,7 @@ use Prim.Native.Nat.{◌+◌, ◌*◌}
 use mathlib.Core.Path.{◌≡◌, ap, sym, ◌∙◌}
 use native.Mathlib.Omega.{arith}
 use Rattle.strings.specs.Bits.{range}
-use Rattle.strings.specs.laws.RangeLaws.{range_none}
+use Rattle.strings.proofs.laws.RangeLaws.{range_none}
 use Rattle.codes.specs.code.Place.{ones}
 use Rattle.codes.specs.laws.SumLaws.{ones-eight, ones-few}
 use Rattle.codes.proofs.sums.ones_bytes.Goals as goal

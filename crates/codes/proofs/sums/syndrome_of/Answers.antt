@@ -1,6 +1,6 @@
 -- `codes::syndrome_of` meets its contract. Assumes nothing.
 use Rattle.strings.specs.Bits.{range}
-use Rattle.strings.specs.laws.RangeLaws.{range_length}
+use Rattle.strings.proofs.laws.RangeLaws.{range_length}
 use Rattle.codes.specs.laws.SumLaws.{syndrome-residue}
 use Rattle.codes.proofs.sums.syndrome_of.Goals as goal
 

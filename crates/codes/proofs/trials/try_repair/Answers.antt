@@ -4,7 +4,7 @@ use mathlib.Core.Bool.{Bool}
 use mathlib.Core.List.{List}
 use mathlib.Core.Option.{Option}
 use Rattle.strings.specs.Bits.{range}
-use Rattle.strings.specs.laws.RangeLaws.{range_length}
+use Rattle.strings.proofs.laws.RangeLaws.{range_length}
 use Rattle.codes.specs.Trials.{agreeing, tried_at}
 use Rattle.codes.specs.code.Edits.{edited}
 use Rattle.codes.specs.laws.RepairLaws.{repair-length}

@@ -3,7 +3,7 @@ use mathlib.Core.Path.{sym, ◌∙◌}
 use Prim.Native.Nat.{◌-◌}
 use native.Mathlib.Omega.{arith}
 use Rattle.strings.specs.Bits.{range}
-use Rattle.strings.specs.laws.RangeLaws.{range_at}
+use Rattle.strings.proofs.laws.RangeLaws.{range_at}
 use Rattle.codes.specs.laws.WeavingLaws.{bit-put-before, bit-put-behind, bit-put-here}
 use Rattle.codes.proofs.weaving.bit_put.Goals as goal
 

@@ -4,7 +4,7 @@ use mathlib.Core.Bool.{false}
 use Prim.Native.Nat.{◌+◌}
 use native.Mathlib.Omega.{arith}
 use Rattle.strings.specs.Bits.{range}
-use Rattle.strings.specs.laws.RangeLaws.{range_at}
+use Rattle.strings.proofs.laws.RangeLaws.{range_at}
 use Rattle.codes.specs.laws.WeavingLaws.{bit-taken-before, bit-taken-behind}
 use Rattle.codes.proofs.weaving.bit_taken.Goals as goal
 

@@ -3,8 +3,8 @@ use Prim.Native.Nat.{ℕ, ◌-◌, ◌+◌}
 use native.Mathlib.Omega.{arith}
 use lib.ListN.{length}
 use Rattle.strings.specs.Bits.{range, write_bits}
-use Rattle.strings.specs.laws.BitLaws.{length-set_bit}
-use Rattle.strings.specs.laws.WriteLaws.{write-none}
+use Rattle.strings.proofs.laws.BitLaws.{length-set_bit}
+use Rattle.strings.proofs.laws.WriteLaws.{write-none}
 use Rattle.codes.specs.code.Weaving.{woven_from}
 use Rattle.codes.specs.laws.WeavingLaws.{woven-last, woven-copied, next-column, next-below}
 use borrow.Author.Rules.{rules}

@@ -3,7 +3,7 @@ use mathlib.Core.Path.{ap, ◌∙◌}
 use Prim.Native.Nat.{◌-◌, ◌≤◌}
 use native.Mathlib.Omega.{arith}
 use lib.ListN.{length}
-use Rattle.strings.specs.laws.WriteLaws.{length-write_bits}
+use Rattle.strings.proofs.laws.WriteLaws.{length-write_bits}
 use Rattle.codes.specs.laws.WeavingLaws.{before-within, behind-within, behind-wide, parts-written}
 use borrow.Author.Rules.{rules}
 use Rattle.codes.proofs.weaving.copy_woven.Goals as goal

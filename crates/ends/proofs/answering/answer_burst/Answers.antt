@@ -2,7 +2,7 @@ use mathlib.Core.Path.{ap₂}
 use mathlib.Core.List.{List}
 use Prim.Native.Nat.{ℕ}
 use Rattle.messages.specs.Answers.{burst_answer, answer_bytes}
-use Rattle.ends.specs.code.HolderCodeLaws.{written-said}
+use Rattle.ends.proofs.code.HolderCodeLaws.{written-said}
 use Rattle.ends.proofs.answering.answer_burst.Reads as reads
 use Rattle.ends.proofs.answering.answer_burst.Lts as lts
 use Rattle.codes.proofs.hash_of.Reads as hash-of-reads

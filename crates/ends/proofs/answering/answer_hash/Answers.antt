@@ -1,7 +1,7 @@
 use mathlib.Core.Path.{ap}
 use Prim.Native.Nat.{ℕ}
 use Rattle.messages.specs.Answers.{hash_answer, answer_bytes}
-use Rattle.ends.specs.code.HolderCodeLaws.{written-said}
+use Rattle.ends.proofs.code.HolderCodeLaws.{written-said}
 use Rattle.ends.proofs.answering.answer_hash.Goals as goal
 
 pub returns : goal.returns

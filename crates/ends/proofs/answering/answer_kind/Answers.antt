@@ -1,6 +1,6 @@
 use mathlib.Core.Path.{sym, ◌∙◌}
 use lib.ListN.{length}
-use Rattle.ends.specs.code.HolderCodeLaws.{kind-no-fields, refused-holder, kind-out-of-turn, kind-fields, able-ready, said-by}
+use Rattle.ends.proofs.code.HolderCodeLaws.{kind-no-fields, refused-holder, kind-out-of-turn, kind-fields, able-ready, said-by}
 use Rattle.ends.proofs.answering.answer_kind.Goals as goal
 
 pub returns-then-not-is_in_turn : goal.returns-then-not-is_in_turn

@@ -1,5 +1,5 @@
 use mathlib.Core.Path.{refl}
-use Rattle.ends.specs.code.HolderCodeLaws.{written-said}
+use Rattle.ends.proofs.code.HolderCodeLaws.{written-said}
 use Rattle.ends.proofs.answering.answer_open.Goals as goal
 
 pub returns : goal.returns

@@ -1,4 +1,4 @@
-use Rattle.ends.specs.code.HolderCodeLaws.{ready-within, able-answers, open-asked, hash-asked, syndrome-asked, bits-asked, burst-asked}
+use Rattle.ends.proofs.code.HolderCodeLaws.{ready-within, able-answers, open-asked, hash-asked, syndrome-asked, bits-asked, burst-asked}
 use Rattle.ends.proofs.answering.answer_question.Goals as goal
 
 pub answer_hash-requires : goal.answer_hash-requires

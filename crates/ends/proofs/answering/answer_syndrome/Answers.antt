@@ -2,7 +2,7 @@ use mathlib.Core.Path.{ap₂}
 use Prim.Native.Nat.{ℕ}
 use native.Mathlib.Omega.{arith}
 use Rattle.messages.specs.Answers.{syndrome_answer, answer_bytes}
-use Rattle.ends.specs.code.HolderCodeLaws.{syndrome-few, written-said}
+use Rattle.ends.proofs.code.HolderCodeLaws.{syndrome-few, written-said}
 use Rattle.ends.proofs.answering.answer_syndrome.Goals as goal
 
 pub overflow_cast-a : goal.overflow_cast-a

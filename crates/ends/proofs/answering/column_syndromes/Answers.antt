@@ -3,7 +3,7 @@ use Prim.Native.Nat.{◌-◌}
 use native.Mathlib.Omega.{arith}
 use lib.ListN.{length-set}
 use Rattle.strings.specs.Bits.{range}
-use Rattle.ends.specs.code.HolderCodeLaws.{column-few, syndromes-next, syndromes-all}
+use Rattle.ends.proofs.code.HolderCodeLaws.{column-few, syndromes-next, syndromes-all}
 use Rattle.ends.proofs.answering.column_syndromes.Goals as goal
 
 pub loop-j-init : goal.loop-j-init

@@ -5,7 +5,7 @@ use lib.Dec.{ltb}
 use Rattle.strings.specs.StringRule.{string_rule}
 use Rattle.ends.specs.Soundness.{holder_sound, most_answers}
 use Rattle.ends.specs.HolderCall.{same_bit_count}
-use Rattle.ends.specs.code.HolderCodeLaws.{call-no-kind, refused-holder, tests-able, able-few, call-bad-string, call-out-of-turn, call-kind, said-by}
+use Rattle.ends.proofs.code.HolderCodeLaws.{call-no-kind, refused-holder, tests-able, able-few, call-bad-string, call-out-of-turn, call-kind, said-by}
 use Rattle.strings.specs.laws.Tests.{test-is}
 use Rattle.ends.proofs.answering.holder_call.Goals as goal
 

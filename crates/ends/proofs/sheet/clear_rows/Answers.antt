@@ -1,4 +1,4 @@
-use Rattle.ends.specs.code.SheetCallLaws.{clear-turn}
+use Rattle.ends.proofs.code.SheetCallLaws.{clear-turn}
 use Rattle.ends.proofs.sheet.clear_rows.Goals as goal
 
 pub loop-i-preserved : goal.loop-i-preserved

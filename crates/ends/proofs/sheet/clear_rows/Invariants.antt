@@ -1,5 +1,5 @@
 use Rattle.std.proofs.Common.{◌-◌}
-use Rattle.ends.specs.code.SheetCallLaws.{ClearedTo}
+use Rattle.ends.proofs.code.SheetCallLaws.{ClearedTo}
 use Rattle.ends.proofs.sheet.clear_rows.Given as goal
 
 abbrev pub invariant-loop-i : goal.invariant-loop-i

@@ -1,6 +1,6 @@
 use Rattle.std.specs.Prelude.{length}
 use Rattle.ends.specs.RebuilderOutcome.{capacities}
-use Rattle.ends.specs.code.SheetCallLaws.{change-fits, left-on-sheet}
+use Rattle.ends.proofs.code.SheetCallLaws.{change-fits, left-on-sheet}
 use Rattle.ends.proofs.sheet.rebuilder_call_on_sheet.Goals as goal
 
 pub apply_change-requires : goal.apply_change-requires

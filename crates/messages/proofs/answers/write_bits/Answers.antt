@@ -3,8 +3,8 @@ use mathlib.Core.List.{◌++◌}
 use Prim.Native.Nat.{ℕ}
 use native.Mathlib.Omega.{arith}
 use Rattle.strings.specs.Bits.{range, pack}
-use Rattle.strings.specs.laws.RangeLaws.{range_length}
-use Rattle.strings.specs.laws.PackLaws.{length-pack}
+use Rattle.strings.proofs.laws.RangeLaws.{range_length}
+use Rattle.strings.proofs.laws.PackLaws.{length-pack}
 use Rattle.messages.specs.Numbers.{number}
 use Rattle.messages.specs.laws.NumberLaws.{size-last}
 use Rattle.messages.specs.Answers.{answer_bytes}

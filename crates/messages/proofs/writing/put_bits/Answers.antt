@@ -1,7 +1,7 @@
 use native.Mathlib.Omega.{arith}
 use Rattle.strings.specs.Bits.{range, pack}
-use Rattle.strings.specs.laws.RangeLaws.{range_length}
-use Rattle.strings.specs.laws.PackLaws.{length-pack}
+use Rattle.strings.proofs.laws.RangeLaws.{range_length}
+use Rattle.strings.proofs.laws.PackLaws.{length-pack}
 use Rattle.messages.specs.laws.WritingLaws.{part-sets}
 use Rattle.messages.proofs.writing.put_bits.Goals as goal
 

@@ -7,11 +7,11 @@ use Rattle.std.specs.Int.Bits.{bit_xor, differ, shifted_even}
 use Rattle.std.proofs.lemmas.Nat.{xor_lt, shl-shr, shr_le}
 use Rattle.std.proofs.Math.Pow.{field, mod-mod-pow}
 use Rattle.strings.specs.Bits.{bit_at, range, byte_bits, Eight, write_bits}
-use Rattle.strings.specs.laws.BitLaws.{xor-digit, differ-zero}
-use Rattle.strings.specs.laws.RangeLaws.{range_length, range_at, range-add, range_none}
-use Rattle.strings.specs.laws.WriteLaws.{length-write_bits, write-none, write-outside, write-inside, write-append}
+use Rattle.strings.proofs.laws.BitLaws.{xor-digit, differ-zero}
+use Rattle.strings.proofs.laws.RangeLaws.{range_length, range_at, range-add, range_none}
+use Rattle.strings.proofs.laws.WriteLaws.{length-write_bits, write-none, write-outside, write-inside, write-append}
 use Rattle.strings.specs.Bits.{Bytes}
-use Rattle.strings.specs.laws.PackLaws.{bytes-by-bits, set-bytes, write_bytes}
+use Rattle.strings.proofs.laws.PackLaws.{bytes-by-bits, set-bytes, write_bytes}
 
 -- ---- a byte by its bits
 byte-bit : (v j : ℕ) → j < 8 → get_or (byte_bits v) j false ≡ eqb (v / 2 ^ (7 - j) % 2) 1

@@ -9,9 +9,9 @@ use borrow.Author.Tests.{eq-eqb, le-leb, lt-ltb}
 use Rattle.strings.specs.Bits.{at_front, bytes_for, pack, range, max_bits}
 use Rattle.strings.specs.Results.{Result, refusal, value}
 use Rattle.strings.specs.SettingLimits.{Limits}
-use Rattle.strings.specs.laws.PackLaws.{pack-none}
-use Rattle.strings.specs.laws.RangeLaws.{range_length}
-use Rattle.strings.specs.laws.RuleLaws.{rule-is}
+use Rattle.strings.proofs.laws.PackLaws.{pack-none}
+use Rattle.strings.proofs.laws.RangeLaws.{range_length}
+use Rattle.strings.proofs.laws.RuleLaws.{rule-is}
 use Rattle.strings.specs.laws.SettingLaws.{limits-is}
 use Rattle.strings.specs.laws.Tests.{and-true, true-false}
 use Rattle.strings.specs.declared.settings.Settings.{Settings}
@@ -39,7 +39,8 @@ use Rattle.ends.specs.declared.Row.{Row}
 use Rattle.ends.specs.laws.Asking.{asks-planned}
 use Rattle.ends.specs.laws.Delivery.{NotOpen, inside-range, later-not-open, length_most, sheet-length-after, starts-so, step-answered, string-length-after}
 use Rattle.ends.specs.laws.HolderLaws.{Made, OpenedIs, counts, fresh-holder-sound, heard-call, heard-made, holder-sound, opened-sound, opens, same_count}
-use Rattle.ends.specs.laws.Invariant.{Inv, Truth, advance-ok, advance-true, proper-now, question-inside, size_of_run}
+use Rattle.ends.specs.laws.Invariant.{Inv, Truth, advance-ok, question-inside, size_of_run}
+use Rattle.ends.proofs.laws.TrueAnswers.{advance-true, proper-now}
 use Rattle.ends.specs.laws.Kept.{Opened, counted, kept, opened}
 use Rattle.ends.specs.laws.RunLaws.{counted-snoc, length-snoc, run-snoc, written-waits, zeroed-snoc}
 use Rattle.ends.specs.laws.Shape.{Inside, ProperFor, sizes}

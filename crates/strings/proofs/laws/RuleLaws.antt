@@ -14,8 +14,8 @@ use borrow.Author.Tests.{eqb-true, eq-eqb, le-leb, leb-true}
 use Rattle.strings.specs.Bits.{max_bits, bit_at, range, bytes_for}
 use Rattle.strings.specs.StringRule.{none_set, string_rule, IsString}
 use Rattle.strings.specs.laws.Tests.{true-false, and_left, and_right}
-use Rattle.strings.specs.laws.BitLaws.{bit_past}
-use Rattle.strings.specs.laws.RangeLaws.{range_length, range_at}
+use Rattle.strings.proofs.laws.BitLaws.{bit_past}
+use Rattle.strings.proofs.laws.RangeLaws.{range_length, range_at}
 
 -- ---- no bit set
 none-at : (l : List Bool) → none_set l ≡ true → (i : ℕ) → get_or l i false ≡ false

@@ -3,8 +3,8 @@ use Rattle.std.specs.Prelude.{◌≡◌, refl, Bool, ◌⊎◌, List, [], ◌∷
 use Rattle.std.proofs.Common.{sym, ap, ap₂, ◌∙◌, inl, inr, add-zero, zero-add, add-one, arith}
 use Rattle.std.proofs.lemmas.List.Edits.{sets}
 use Rattle.strings.specs.Bits.{bit_at, range, set_bit, write_bits, zero_bytes}
-use Rattle.strings.specs.laws.BitLaws.{set_bit-same, set_bit-other, length-set_bit, set_bit-front, set_bit-behind}
-use Rattle.strings.specs.laws.RangeLaws.{range_same, range-add, range-take, range-drop, rest, rest-is}
+use Rattle.strings.proofs.laws.BitLaws.{set_bit-same, set_bit-other, length-set_bit, set_bit-front, set_bit-behind}
+use Rattle.strings.proofs.laws.RangeLaws.{range_same, range-add, range-take, range-drop, rest, rest-is}
 
 pub length-write_bits : (s : List ℕ) (a : ℕ) (l : List Bool) → length (write_bits s a l) ≡ length s
 unfolding write_bits

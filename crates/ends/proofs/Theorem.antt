@@ -1,7 +1,7 @@
 -- 01, demand 3, as a theorem, and that runs end. Statement has the claims; what leads to them is in laws/.
 use Rattle.ends.specs.Statement.{DemandThree, RunsEnd}
-use Rattle.ends.specs.laws.Claimed.{all-lists}
-use Rattle.ends.specs.laws.RunEnds.{all_end}
+use Rattle.ends.proofs.laws.Claimed.{all-lists}
+use Rattle.ends.proofs.laws.RunEnds.{all_end}
 
 pub demand3 : DemandThree
 demand3 = all-lists

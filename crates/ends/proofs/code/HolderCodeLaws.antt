@@ -9,8 +9,8 @@ use Rattle.strings.specs.Refusals.{refusal_number}
 use Rattle.strings.specs.Results.{Result, refusal, value}
 use Rattle.strings.specs.Bits.{range, max_bits}
 use Rattle.strings.specs.StringRule.{string_rule}
-use Rattle.strings.specs.laws.RangeLaws.{range_length, range-part}
-use Rattle.strings.specs.laws.RuleLaws.{rule-is}
+use Rattle.strings.proofs.laws.RangeLaws.{range_length, range-part}
+use Rattle.strings.proofs.laws.RuleLaws.{rule-is}
 use Rattle.strings.specs.laws.Tests.{and_left, and_right}
 use Rattle.strings.specs.declared.Refusal.{Refusal}
 use Rattle.strings.specs.declared.Refusal.TheVariants.{BadString, OutOfTurn}

@@ -6,7 +6,8 @@ use Rattle.messages.specs.Answers.{Answer}
 use Rattle.messages.specs.declared.Question.{Question}
 use Rattle.messages.specs.declared.Question.TheVariants.{AskBits}
 use Rattle.ends.specs.Anchors.{part}
-use Rattle.ends.specs.laws.Invariant.{Inv, Truth, proper-now, work-chain}
+use Rattle.ends.specs.laws.Invariant.{Inv, Truth, work-chain}
+use Rattle.ends.proofs.laws.TrueAnswers.{proper-now}
 use Rattle.ends.specs.Claims.{At, total}
 use Rattle.strings.specs.SettingLimits.{Limits}
 use Rattle.ends.specs.Runs.{Run, advance, judge, opening, pieces_of, question, size_of, string, honest_answer, whole, working}

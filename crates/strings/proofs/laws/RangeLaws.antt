@@ -3,7 +3,7 @@ use Rattle.std.specs.Prelude.{◌≡◌, refl, Bool, true, false, List, [], ◌�
 use Rattle.std.proofs.Common.{sym, ap, ap₂, ◌∙◌, zero-add, suc-add, add-zero, add-suc, add-one, arith, take_at, drop_at}
 use Rattle.strings.specs.Bits.{bit_at, range, same_bits}
 use Rattle.strings.specs.laws.Tests.{true-false}
-use Rattle.strings.specs.laws.BitLaws.{bit-behind}
+use Rattle.strings.proofs.laws.BitLaws.{bit-behind}
 
 pub range_length : (s : List ℕ) (a n : ℕ) → length (range s a n) ≡ n
 unfolding range

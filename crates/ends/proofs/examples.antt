@@ -1,0 +1,2 @@
+-- Worked examples, computed on the definitions.
+pub mod Demo

@@ -1,0 +1,2 @@
+-- Laws that rest on definitions which must-fail edits change, and what the proofs share.
+pub mod laws
