@@ -1,4 +1,3 @@
-use Prim.Native.Nat.{◌-◌}
 use mathlib.Core.Path.{refl, ◌∙◌}
 use Rattle.lines.specs.laws.FieldLaws.{end-here, end-next, end-last}
 use Rattle.lines.proofs.field_end.Goals as goal

@@ -1,4 +1,3 @@
-use Prim.Native.Nat.{◌-◌}
 use mathlib.Core.Path.{refl, ◌∙◌}
 use Rattle.lines.specs.laws.StringLaws.{bits-other, bits-next, bits-last}
 use Rattle.lines.proofs.only_bits.Goals as goal

@@ -1,4 +1,4 @@
-use Prim.Native.Nat.{◌+◌, ◌-◌}
+use Prim.Native.Nat.{◌+◌}
 use native.Mathlib.Omega.{arith}
 use borrow.Author.Rules.{rules}
 use Rattle.lines.specs.laws.SettingsLaws.{decimal-none, decimal-first, decimal-other, decimal-next, decimal-large, decimal-last}
