@@ -4,7 +4,7 @@ ghost use Rattle.std.specs.Prelude.{◌≡◌, ◌+◌, ◌-◌, ◌≤◌, min,
 ghost use Rattle.strings.specs.Bits.{range, max_bits};
 ghost use Rattle.ends.specs.Anchors.{isqrt as isqrtOf, distance as distance_of, place};
 ghost use Rattle.ends.specs.AnchorSearch.{place_in, anchor_settings, anchor_range, said_anchor, anchor_search};
-ghost use Rattle.ends.proofs.code.Window.{Searching, Small, window_start, window_end};
+ghost use Rattle.ends.specs.code.Window.{Searching, Small, window_start, window_end};
 
 use strings::Refusal;
 

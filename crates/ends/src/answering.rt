@@ -6,7 +6,7 @@ ghost use Rattle.messages.specs.Answers.{size_answer, bits_answer};
 ghost use Rattle.ends.specs.HolderCall.{fresh_holder, same_bit_count, in_turn, answers_to, of_kind};
 ghost use Rattle.ends.specs.Soundness.{most_answers};
 ghost use Rattle.ends.specs.HolderOutcome.{said_holder, leaves_holder, holder_outcome};
-ghost use Rattle.ends.proofs.code.HolderParts.{refused, written, opened_with, one_more, hash_reply, syndrome_reply, burst_reply, reply_outcome, Answers, Able, Ready};
+ghost use Rattle.ends.specs.code.HolderParts.{refused, written, opened_with, one_more, hash_reply, syndrome_reply, burst_reply, reply_outcome, Answers, Able, Ready};
 
 use crate::sound::holder_is_sound;
 use crate::{Holder, MOST_ANSWERS};

@@ -6,7 +6,7 @@ ghost use Rattle.messages.specs.Questions.{question_kind, question_length, quest
 ghost use Rattle.ends.specs.States.{planned};
 ghost use Rattle.ends.specs.Soundness.{sound};
 ghost use Rattle.ends.specs.RebuilderOutcome.{said_rebuilder, rebuilder_outcome, capacities, no_rebuilder, said_start, start_outcome};
-ghost use Rattle.ends.proofs.code.RebuilderParts.{turned_down, Due, enough_for_answer, heard_outcome, asked_outcome};
+ghost use Rattle.ends.specs.code.RebuilderParts.{turned_down, Due, enough_for_answer, heard_outcome, asked_outcome};
 ghost use Rattle.ends.specs.declared.rebuilding.StartAnswer.TheVariants.{NotBegun};
 
 use crate::sound::rebuilder_is_sound;

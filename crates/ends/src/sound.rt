@@ -4,8 +4,8 @@ ghost use Rattle.strings.specs.Bits.{max_bits};
 ghost use Rattle.ends.specs.Soundness.{bound, holder_sound, is_blank, blank_from, piece_fits, in_order, stage_fits, is_hashing, asks_before, stack_sound, opening_sound, pieces_sound, whole_sound, sound, top_fits, rows_in_limit, asks_fit, last_ask_fits, most_counted, phase_sound};
 ghost use Rattle.ends.specs.Runs.{full, longest_answer};
 ghost use Rattle.ends.specs.States.{held};
-ghost use Rattle.ends.proofs.code.StateCode.{Usable};
-ghost use Rattle.ends.proofs.code.SoundCode.{Sized, Work, Sum};
+ghost use Rattle.ends.specs.code.StateCode.{Usable};
+ghost use Rattle.ends.specs.code.SoundCode.{Sized, Work, Sum};
 
 use crate::state::{is_burst, too_small, top, wide};
 use crate::{Attempt, Holder, LONGEST_NUMBERS, MOST_ANSWERS, Phase, Piece, Rebuilder, Stage};

@@ -6,7 +6,7 @@ ghost use Rattle.ends.specs.Segments.{too_small, is_burst, later_stage, first_st
 ghost use Rattle.ends.specs.States.{stacked, top, popped, pushed, restaged, retried, split_at, planned};
 ghost use Rattle.ends.specs.RebuilderCall.{counting, tallied, opening_step, whole_state, fresh_rebuilder};
 ghost use Rattle.ends.specs.declared.Phase.TheVariants.{AtPieces, AtWhole};
-ghost use Rattle.ends.proofs.code.StateCode.{plan_of, Usable, Holds, Stages, Retries, Offsets, Splits, Counts, Asks, Plans};
+ghost use Rattle.ends.specs.code.StateCode.{plan_of, Usable, Holds, Stages, Retries, Offsets, Splits, Counts, Asks, Plans};
 
 use crate::{Attempt, NO_PIECE, Phase, Piece, Rebuilder, Stage};
 use messages::Question;

@@ -12,8 +12,8 @@ ghost use Rattle.ends.specs.declared.How.TheVariants.{ByAnchor};
 ghost use Rattle.ends.specs.declared.Stage.TheVariants.{Hashing, Anchor, AllBits};
 ghost use Rattle.ends.specs.RebuilderCall.{tallied, written_question};
 ghost use Rattle.ends.specs.RebuilderOutcome.{said_rebuilder};
-ghost use Rattle.ends.proofs.code.StateCode.{plan_of};
-ghost use Rattle.ends.proofs.code.RebuilderParts.{next_answer, OutIs, Acting, Splitting, Lending, Retriable, RepairDue, BurstDue, burst_of, AsksBits, bits_of_stage, repair_how, step_outcome, WholeDue, Opening, BitsDue, due_length};
+ghost use Rattle.ends.specs.code.StateCode.{plan_of};
+ghost use Rattle.ends.specs.code.RebuilderParts.{next_answer, OutIs, Acting, Splitting, Lending, Retriable, RepairDue, BurstDue, burst_of, AsksBits, bits_of_stage, repair_how, step_outcome, WholeDue, Opening, BitsDue, due_length};
 
 use crate::anchors::Place;
 use crate::rebuilding::{RebuilderAnswer, RebuilderOut};

@@ -7,7 +7,7 @@ use Rattle.strings.specs.Bits.{at_front, Bytes}
 use Rattle.strings.specs.Refusals.{refusal_number}
 use Rattle.strings.specs.Results.{Result, refusal, value, mapped}
 use Rattle.strings.specs.declared.Refusal.{Refusal}
-use Rattle.strings.proofs.laws.ResultLaws.{Numbered, no_value, refusal-small, value-is}
+use Rattle.strings.specs.laws.ResultLaws.{Numbered, no_value, refusal-small, value-is}
 use Rattle.ends.specs.HolderCall.{Reply, holder_call}
 use Rattle.ends.specs.HolderOutcome.{leaves_holder}
 use Rattle.ends.specs.RebuilderCall.{Capacities, Taken, change_row, rebuilder_call, sheet_after, takes}
@@ -17,9 +17,9 @@ use Rattle.ends.specs.Statement.{FairCall, HoldersAnswer, LongEnough, OnceEach, 
 use Rattle.ends.specs.Worlds.{Call, Lent, World, after_holder, after_rebuilder, joined, last_written, step_world, to_holder, to_rebuilder}
 use Rattle.ends.specs.declared.Row.{Row}
 use Rattle.ends.proofs.laws.Claimed.{Known, holder-claims, holder_known, rebuilder-claims, rebuilder-known}
-use Rattle.ends.proofs.laws.RefusedLaws.{call-numbered, holder-numbered}
-use Rattle.ends.proofs.laws.RunLaws.{written-waits}
-use Rattle.ends.proofs.laws.SheetLength.{SmallRow, taken-row, taken-rows}
+use Rattle.ends.specs.laws.RefusedLaws.{call-numbered, holder-numbered}
+use Rattle.ends.specs.laws.RunLaws.{written-waits}
+use Rattle.ends.specs.laws.SheetLength.{SmallRow, taken-row, taken-rows}
 use Rattle.layout.specs.Layout.{holder_bytes, holder_of, is_holder, is_rebuilder, rebuilder_bytes, rebuilder_of}
 use Rattle.layout.specs.Sheet.{row_size, rows_in, sheet_bytes_after}
 use Rattle.layout.specs.laws.LayoutLaws.{HolderFits}

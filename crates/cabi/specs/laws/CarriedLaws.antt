@@ -7,8 +7,8 @@ use Rattle.strings.specs.Bits.{max_bits}
 use Rattle.strings.specs.Bits.{Bytes}
 use Rattle.strings.specs.StringRule.{string_rule}
 use Rattle.strings.proofs.laws.RuleLaws.{rule-is}
-use Rattle.strings.proofs.laws.ResultLaws.{unless-passed}
-use Rattle.strings.proofs.laws.Tests.{by-test}
+use Rattle.strings.specs.laws.ResultLaws.{unless-passed}
+use Rattle.strings.specs.laws.Tests.{by-test}
 use Rattle.strings.specs.declared.Refusal.TheVariants.{BadSetting, BadString, OutOfTurn, BufferTooShort}
 use Rattle.strings.specs.declared.settings.Settings.{Settings}
 use Rattle.ends.specs.declared.Piece.{Piece}
@@ -18,13 +18,13 @@ use Rattle.ends.specs.declared.Rebuilder.{Rebuilder}
 use Rattle.strings.specs.SettingLimits.{within_limits}
 use Rattle.ends.specs.States.{no_piece, held}
 use Rattle.ends.specs.Soundness.{sound, phase_sound, sound_at}
-use Rattle.ends.proofs.laws.Counts.{before-most}
-use Rattle.ends.proofs.laws.SoundLaws.{Ordered}
-use Rattle.ends.proofs.laws.SoundParts.{Framed, sound-is, OpeningIs, opening-is, PiecesIs, pieces-is, WholeIs, whole_is}
-use Rattle.ends.proofs.laws.SoundSteps.{fresh-sound}
+use Rattle.ends.specs.laws.Counts.{before-most}
+use Rattle.ends.specs.laws.SoundLaws.{Ordered}
+use Rattle.ends.specs.laws.SoundParts.{Framed, sound-is, OpeningIs, opening-is, PiecesIs, pieces-is, WholeIs, whole_is}
+use Rattle.ends.specs.laws.SoundSteps.{fresh-sound}
 use Rattle.ends.specs.RebuilderCall.{starts, fresh_rebuilder, takes, Step, Capacities}
-use Rattle.ends.proofs.laws.Asking.{call-sound}
-use Rattle.ends.proofs.laws.Delivery.{started-is}
+use Rattle.ends.specs.laws.Asking.{call-sound}
+use Rattle.ends.specs.laws.Delivery.{started-is}
 use Rattle.layout.specs.Layout.{rebuilder_size, rebuilder_bytes, rebuilder_of, is_rebuilder}
 use Rattle.layout.specs.laws.LayoutLaws.{PieceFits, RebuilderFits, rebuilder-read, rebuilder-bytes-front, rebuilder-pieces}
 use Rattle.cabi.specs.Calls.{start_on_bytes, rebuilder_on_bytes}

@@ -10,7 +10,7 @@ use Rattle.strings.proofs.laws.RangeLaws.{range_length}
 use Rattle.strings.specs.StringRule.{string_rule}
 use Rattle.strings.specs.Refusals.{refusal_number}
 use Rattle.strings.specs.Results.{Result, refusal, value}
-use Rattle.strings.proofs.laws.ResultLaws.{no_value, value-is, unless-passed}
+use Rattle.strings.specs.laws.ResultLaws.{no_value, value-is, unless-passed}
 use Rattle.strings.specs.declared.Refusal.{Refusal}
 use Rattle.strings.specs.declared.Refusal.TheVariants.{BadString, OutOfTurn, BufferTooShort}
 use Rattle.codes.specs.Syndrome.{syndrome}
@@ -29,7 +29,7 @@ use Rattle.ends.specs.declared.Holder.{Holder}
 use Rattle.ends.specs.Anchors.{part}
 use Rattle.ends.specs.Runs.{answer}
 use Rattle.ends.specs.HolderCall.{Reply, replies, holder_call, fresh_holder}
-use Rattle.ends.proofs.laws.HolderLaws.{heard-call, Made, opens, counts, heard-made, holder-sound}
+use Rattle.ends.specs.laws.HolderLaws.{heard-call, Made, opens, counts, heard-made, holder-sound}
 use Rattle.ends.specs.declared.answering.HolderAnswer.TheVariants.{Replied, Refused}
 use Rattle.ends.specs.declared.answering.HolderOut.{HolderOut}
 use Rattle.ends.specs.HolderOutcome.{HolderSaid, answer_said, said_holder, leaves_holder}

@@ -5,7 +5,7 @@ use Rattle.std.proofs.Math.Seq.{drop-append_seam}
 use Rattle.strings.specs.Bits.{at_front}
 use Rattle.strings.specs.StringRule.{string_rule}
 use Rattle.strings.specs.Results.{Result, refusal, value}
-use Rattle.strings.proofs.laws.ResultLaws.{unless-passed}
+use Rattle.strings.specs.laws.ResultLaws.{unless-passed}
 use Rattle.strings.specs.declared.Refusal.TheVariants.{BadSetting, BadString, OutOfTurn, BufferTooShort}
 use Rattle.strings.specs.declared.settings.Settings.{Settings}
 use Rattle.strings.specs.SettingLimits.{within_limits}

@@ -13,7 +13,7 @@ use Rattle.ends.specs.RebuilderOutcome.{leaves_start}
 use Rattle.ends.specs.Statement.{AfterClaims, Supposed}
 use Rattle.ends.specs.Worlds.{Call, Lent, World, first_world, first_written, to_holder, to_rebuilder}
 use Rattle.ends.proofs.laws.Claimed.{Known, after-claims, first-known}
-use Rattle.ends.proofs.laws.Delivery.{starts-so}
+use Rattle.ends.specs.laws.Delivery.{starts-so}
 use Rattle.layout.specs.Layout.{holder_bytes, holder_of, is_holder, is_rebuilder, rebuilder_bytes, rebuilder_of, rebuilder_size, holder_size}
 use Rattle.layout.specs.Sheet.{rows_in}
 use Rattle.layout.specs.laws.LayoutLaws.{HolderFits}

@@ -11,7 +11,7 @@ use Rattle.codes.specs.declared.entries.RepairAnswer.TheVariants.{Done, Nothing,
 use Rattle.codes.specs.declared.markers.BuildAnswer.{BuildAnswer}
 use Rattle.codes.specs.declared.markers.BuildAnswer.TheVariants.{Built, Refused as BuildRefused}
 use Rattle.ends.specs.AnchorSearch.{anchor_search, said_anchor}
-use Rattle.ends.proofs.code.AnchorSearchLaws.{AnswerMost, search-most}
+use Rattle.ends.specs.code.AnchorSearchLaws.{AnswerMost, search-most}
 use Rattle.ends.specs.declared.anchors.AnchorAnswer.{AnchorAnswer}
 use Rattle.ends.specs.declared.anchors.AnchorAnswer.TheVariants.{Placed}
 use Rattle.cabi.specs.Packing.{packed, place_number, value_unit}

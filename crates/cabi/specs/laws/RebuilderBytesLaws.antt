@@ -9,7 +9,7 @@ use Rattle.strings.specs.Bits.{at_front}
 use Rattle.strings.specs.StringRule.{string_rule}
 use Rattle.strings.specs.Refusals.{refusal_number}
 use Rattle.strings.specs.Results.{Result, refusal, value}
-use Rattle.strings.proofs.laws.ResultLaws.{no_value, value-is}
+use Rattle.strings.specs.laws.ResultLaws.{no_value, value-is}
 use Rattle.strings.specs.declared.Refusal.{Refusal}
 use Rattle.strings.specs.declared.Refusal.TheVariants.{BadSetting, BadString, OutOfTurn, BufferTooShort}
 use Rattle.messages.specs.declared.Question.{Question}
@@ -25,8 +25,8 @@ use Rattle.ends.specs.declared.Rebuilder.{Rebuilder}
 use Rattle.strings.specs.SettingLimits.{within_limits}
 use Rattle.ends.specs.States.{planned}
 use Rattle.ends.specs.RebuilderCall.{Started, rebuilder_start, Taken, Capacities, rebuilder_call, written_question, step_of, string_after, rows_needed}
-use Rattle.ends.proofs.laws.Asking.{TakenCall, taken-call}
-use Rattle.ends.proofs.laws.Delivery.{started-is}
+use Rattle.ends.specs.laws.Asking.{TakenCall, taken-call}
+use Rattle.ends.specs.laws.Delivery.{started-is}
 use Rattle.ends.specs.declared.rebuilding.StartAnswer.TheVariants.{Begun, NotBegun}
 use Rattle.ends.specs.declared.rebuilding.StartOut.{StartOut}
 use Rattle.ends.specs.declared.rebuilding.RebuilderAnswer.TheVariants.{Refused}

@@ -4,7 +4,7 @@ use Rattle.std.proofs.Common.{sym, ap, ap₂, ◌∙◌, subst, ⊎_elim, suc-mu
 use Rattle.std.proofs.Math.Option.{Option, none, some}
 use Rattle.std.proofs.Math.Decide.{ℕ_discrete}
 use Rattle.strings.specs.Bits.{max_bits, range}
-use Rattle.strings.proofs.laws.Tests.{true-false}
+use Rattle.strings.specs.laws.Tests.{true-false}
 use Rattle.strings.proofs.laws.RangeLaws.{range_length}
 use Rattle.codes.specs.Repair.{without, insert_at, repair_to}
 use Rattle.codes.specs.Columns.{column, column_length, repair_run, RunApart}

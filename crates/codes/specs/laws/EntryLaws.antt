@@ -15,7 +15,7 @@ use Rattle.strings.specs.Results.{Result, refusal, value, unless}
 use Rattle.strings.specs.declared.Refusal.{Refusal}
 use Rattle.strings.specs.declared.Refusal.TheVariants.{BadSetting, BadString, OutOfRange, BufferTooShort}
 use Rattle.strings.proofs.laws.RuleLaws.{rule-is}
-use Rattle.strings.proofs.laws.Tests.{and_left, and_right}
+use Rattle.strings.specs.laws.Tests.{and_left, and_right}
 use Rattle.codes.specs.Syndrome.{syndrome}
 use Rattle.codes.specs.Repair.{OneApart, repair_to}
 use Rattle.codes.specs.Hash.{hash}

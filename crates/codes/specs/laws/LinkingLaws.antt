@@ -12,7 +12,7 @@ use Rattle.std.proofs.lemmas.List.{length-map, length-replicate, get_or-replicat
 use Rattle.std.proofs.lemmas.List.Edits.{sets}
 use Rattle.std.proofs.Math.Dec.{eqb}
 use borrow.Author.Tests.{eq-eqb, ne_eqb}
-use Rattle.strings.proofs.laws.StoreLaws.{sets-append}
+use Rattle.strings.specs.laws.StoreLaws.{sets-append}
 use Rattle.codes.specs.Syndrome.{weighted_sum, syndrome}
 use Rattle.codes.specs.laws.SyndromeLaws.{weighted-sum-append, syndrome-is}
 use Rattle.codes.specs.laws.RepairLaws.{lack-is, lack-adds}

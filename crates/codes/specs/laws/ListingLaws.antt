@@ -18,7 +18,7 @@ use Rattle.strings.specs.Bits.{at_front}
 use Rattle.strings.specs.Refusals.{refusal_number}
 use Rattle.strings.specs.Results.{refusal, value}
 use Rattle.strings.specs.declared.Refusal.TheVariants.{OutOfRange, ListTooShort}
-use Rattle.strings.proofs.laws.StoreLaws.{sets-front}
+use Rattle.strings.specs.laws.StoreLaws.{sets-front}
 use Rattle.codes.specs.Syndrome.{syndrome}
 use Rattle.codes.specs.Counting.{strings, of_syndrome}
 use Rattle.codes.specs.Listing.{number_of, bits_of, listing, Rising, list_range, list_call, ListLeft, list_outcome}

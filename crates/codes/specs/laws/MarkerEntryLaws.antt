@@ -17,7 +17,7 @@ use Rattle.strings.specs.declared.Refusal.TheVariants.{BadString, OutOfRange, Bu
 use Rattle.strings.proofs.laws.BitLaws.{bit-front}
 use Rattle.strings.proofs.laws.RangeLaws.{range_length, range-equal}
 use Rattle.strings.proofs.laws.PackLaws.{length-pack, pack-bits, front-write}
-use Rattle.strings.proofs.laws.Tests.{and_left, and_right}
+use Rattle.strings.specs.laws.Tests.{and_left, and_right}
 use Rattle.codes.specs.Syndrome.{weighted_sum, syndrome}
 use Rattle.codes.specs.Repair.{OneApart, repair_to}
 use Rattle.codes.specs.Entries.{repair_left, said_repair}

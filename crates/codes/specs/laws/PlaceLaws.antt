@@ -13,7 +13,7 @@ use Rattle.std.proofs.Math.Dec.{eqb}
 use borrow.Author.Tests.{le-leb, lt-leb, leb-true, eq-eqb, ne_eqb, eqb-true, eqb-false}
 use mir.Val.{bool_byte}
 use Rattle.strings.specs.Bits.{range, byte_bits, Eight}
-use Rattle.strings.proofs.laws.Tests.{true-false}
+use Rattle.strings.specs.laws.Tests.{true-false}
 use Rattle.strings.proofs.laws.RangeLaws.{rest, range-add}
 use Rattle.codes.specs.Syndrome.{weighted_sum, syndrome}
 use Rattle.codes.specs.laws.SyndromeLaws.{weighted-sum-without, ones-next, ones-zeros, ones-append, ones-drop, ones-drop-most, place-ones, syndrome-most}

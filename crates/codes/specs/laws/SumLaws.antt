@@ -7,7 +7,7 @@ use Rattle.std.proofs.lemmas.List.{get_or-replicate}
 use Rattle.std.specs.Int.Bits.{bit_and}
 use mir.Val.{bool_byte}
 use Rattle.strings.specs.Bits.{bit_at, range, byte_bits, Eight}
-use Rattle.strings.proofs.laws.Tests.{true-false}
+use Rattle.strings.specs.laws.Tests.{true-false}
 use Rattle.strings.proofs.laws.RangeLaws.{range_length, range-step, range_none, range-add}
 use Rattle.strings.proofs.laws.ByteLaws.{eight-bit}
 use Rattle.codes.specs.Syndrome.{weighted_sum, syndrome}

@@ -8,7 +8,7 @@ use Rattle.std.proofs.Math.Option.{Option, none, some}
 use Rattle.std.proofs.Math.Dec.{eqb}
 use borrow.Author.Tests.{eq-eqb, ne_eqb, eqb-true}
 use Rattle.strings.specs.Bits.{write_bits}
-use Rattle.strings.proofs.laws.Tests.{true-false}
+use Rattle.strings.specs.laws.Tests.{true-false}
 use Rattle.codes.specs.Hash.{hash}
 use Rattle.codes.specs.Trials.{agreeing, Tried, tried_at}
 

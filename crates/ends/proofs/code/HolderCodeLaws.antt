@@ -11,7 +11,7 @@ use Rattle.strings.specs.Bits.{range, max_bits}
 use Rattle.strings.specs.StringRule.{string_rule}
 use Rattle.strings.proofs.laws.RangeLaws.{range_length, range-part}
 use Rattle.strings.proofs.laws.RuleLaws.{rule-is}
-use Rattle.strings.proofs.laws.Tests.{and_left, and_right}
+use Rattle.strings.specs.laws.Tests.{and_left, and_right}
 use Rattle.strings.specs.declared.Refusal.{Refusal}
 use Rattle.strings.specs.declared.Refusal.TheVariants.{BadString, OutOfTurn}
 use Rattle.codes.specs.Syndrome.{syndrome}
@@ -38,7 +38,7 @@ use Rattle.ends.specs.Soundness.{holder_sound, most_answers}
 use Rattle.ends.specs.HolderCall.{same_bit_count, in_turn, sends, answers_to, of_kind, holder_call, Reply}
 use Rattle.ends.specs.declared.answering.HolderOut.{HolderOut}
 use Rattle.ends.specs.HolderOutcome.{HolderSaid, said_holder, leaves_holder}
-use Rattle.ends.proofs.code.HolderParts.{refused, written, opened_with, one_more, Answers, Able, Ready}
+use Rattle.ends.specs.code.HolderParts.{refused, written, opened_with, one_more, Answers, Able, Ready}
 use Rattle.codes.specs.Columns.{column, syndromes}
 use Rattle.codes.specs.laws.ColumnLaws.{column-short, syndromes-at, syndromes-length}
 

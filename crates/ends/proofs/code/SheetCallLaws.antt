@@ -7,7 +7,7 @@ use Rattle.strings.specs.Results.{Result, refusal, value}
 use Rattle.ends.specs.declared.Rebuilder.{Rebuilder}
 use Rattle.ends.specs.declared.Row.{Row}
 use Rattle.ends.specs.RebuilderCall.{Capacities, Step, Taken, no_row, rebuilder_call, sheet_after, takes, rows_needed}
-use Rattle.ends.proofs.laws.SheetLength.{taken-rows}
+use Rattle.ends.specs.laws.SheetLength.{taken-rows}
 use Rattle.ends.specs.declared.rebuilding.RebuilderOut.{RebuilderOut}
 use Rattle.ends.specs.RebuilderOutcome.{RebuilderSaid, said_rebuilder, leaves_rebuilder}
 use Rattle.ends.specs.SheetCall.{said_on_sheet, sheet_left, leaves_on_sheet}

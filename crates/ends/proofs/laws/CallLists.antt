@@ -12,8 +12,8 @@ use Rattle.strings.specs.SettingLimits.{Limits}
 use Rattle.strings.proofs.laws.PackLaws.{pack-none}
 use Rattle.strings.proofs.laws.RangeLaws.{range_length}
 use Rattle.strings.proofs.laws.RuleLaws.{rule-is}
-use Rattle.strings.proofs.laws.SettingLaws.{limits-is}
-use Rattle.strings.proofs.laws.Tests.{and-true, true-false}
+use Rattle.strings.specs.laws.SettingLaws.{limits-is}
+use Rattle.strings.specs.laws.Tests.{and-true, true-false}
 use Rattle.strings.specs.declared.settings.Settings.{Settings}
 use Rattle.messages.specs.Answers.{Answer, answer_bytes, read_answer}
 use Rattle.messages.specs.Questions.{question_burst, question_bytes, question_kind, question_length, read_question}
@@ -36,18 +36,18 @@ use Rattle.ends.specs.declared.Holder.{Holder}
 use Rattle.ends.specs.declared.Phase.TheVariants.{AtOpening, AtPieces, AtWhole}
 use Rattle.ends.specs.declared.Rebuilder.{Rebuilder}
 use Rattle.ends.specs.declared.Row.{Row}
-use Rattle.ends.proofs.laws.Asking.{asks-planned}
-use Rattle.ends.proofs.laws.Delivery.{NotOpen, inside-range, later-not-open, length_most, sheet-length-after, starts-so, step-answered, string-length-after}
-use Rattle.ends.proofs.laws.HolderLaws.{Made, OpenedIs, counts, fresh-holder-sound, heard-call, heard-made, holder-sound, opened-sound, opens, same_count}
-use Rattle.ends.proofs.laws.Invariant.{Inv, Truth, advance-ok, question-inside, size_of_run}
+use Rattle.ends.specs.laws.Asking.{asks-planned}
+use Rattle.ends.specs.laws.Delivery.{NotOpen, inside-range, later-not-open, length_most, sheet-length-after, starts-so, step-answered, string-length-after}
+use Rattle.ends.specs.laws.HolderLaws.{Made, OpenedIs, counts, fresh-holder-sound, heard-call, heard-made, holder-sound, opened-sound, opens, same_count}
+use Rattle.ends.specs.laws.Invariant.{Inv, Truth, advance-ok, question-inside, size_of_run}
 use Rattle.ends.proofs.laws.TrueAnswers.{advance-true, proper-now}
-use Rattle.ends.proofs.laws.Kept.{Opened, counted, kept, opened}
-use Rattle.ends.proofs.laws.RunLaws.{counted-snoc, length-snoc, run-snoc, written-waits, zeroed-snoc}
-use Rattle.ends.proofs.laws.Shape.{Inside, ProperFor, sizes}
-use Rattle.ends.proofs.laws.SoundSteps.{fresh-sound, step-sound}
-use Rattle.ends.proofs.laws.Standing.{Stands}
-use Rattle.ends.proofs.laws.Steps.{EnoughFor, stands-step}
-use Rattle.ends.proofs.laws.Store.{Tidy, asks-same, keeps-pace, store_of}
+use Rattle.ends.specs.laws.Kept.{Opened, counted, kept, opened}
+use Rattle.ends.specs.laws.RunLaws.{counted-snoc, length-snoc, run-snoc, written-waits, zeroed-snoc}
+use Rattle.ends.specs.laws.Shape.{Inside, ProperFor, sizes}
+use Rattle.ends.specs.laws.SoundSteps.{fresh-sound, step-sound}
+use Rattle.ends.specs.laws.Standing.{Stands}
+use Rattle.ends.specs.laws.Steps.{EnoughFor, stands-step}
+use Rattle.ends.specs.laws.Store.{Tidy, asks-same, keeps-pace, store_of}
 
 module _ (c : Lent) (sup : Supposed c) where
   abbrev pub S : Settings

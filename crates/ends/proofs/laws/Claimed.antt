@@ -6,7 +6,7 @@ use Rattle.std.proofs.Math.Seq.{take-append_seam}
 use Rattle.strings.specs.Bits.{at_front, pack, max_bits}
 use Rattle.strings.specs.Results.{Result, refusal, value}
 use Rattle.strings.proofs.laws.PackLaws.{pack-none}
-use Rattle.strings.proofs.laws.ResultLaws.{no_value}
+use Rattle.strings.specs.laws.ResultLaws.{no_value}
 use Rattle.strings.proofs.laws.RuleLaws.{rule-is}
 use Rattle.strings.specs.declared.settings.Settings.{Settings}
 use Rattle.messages.specs.Answers.{Answer, answer_bytes}
@@ -31,14 +31,14 @@ use Rattle.ends.specs.declared.How.{How}
 use Rattle.ends.specs.declared.Rebuilder.{Rebuilder}
 use Rattle.ends.specs.declared.Row.{Row}
 use Rattle.ends.proofs.laws.CallLists.{HolderIs, Honest, L, Past, Rep, continues, has_opened, holder-step, in-range, later-reply, n_x, next, opening-reply, past_more, past-now, rep_next, same-opening, takes-it, unopened, x-few, x-length, y-length}
-use Rattle.ends.proofs.laws.Delivery.{starts-so}
-use Rattle.ends.proofs.laws.Invariant.{Truth}
-use Rattle.ends.proofs.laws.Kept.{Opened, counted, kept, opened}
+use Rattle.ends.specs.laws.Delivery.{starts-so}
+use Rattle.ends.specs.laws.Invariant.{Truth}
+use Rattle.ends.specs.laws.Kept.{Opened, counted, kept, opened}
 use Rattle.ends.proofs.laws.Lasting.{settled-stays}
-use Rattle.ends.proofs.laws.RunLaws.{counted-snoc, length-snoc, run-snoc, written-waits, zeroed-snoc}
-use Rattle.ends.proofs.laws.SoundSteps.{fresh-sound}
-use Rattle.ends.proofs.laws.Standing.{Stands}
-use Rattle.ends.proofs.laws.Store.{store_of}
+use Rattle.ends.specs.laws.RunLaws.{counted-snoc, length-snoc, run-snoc, written-waits, zeroed-snoc}
+use Rattle.ends.specs.laws.SoundSteps.{fresh-sound}
+use Rattle.ends.specs.laws.Standing.{Stands}
+use Rattle.ends.specs.laws.Store.{store_of}
 
 -- a run has begun once there is an answer
 abbrev Begun : Run → ℕ → Type 0

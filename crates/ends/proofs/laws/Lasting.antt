@@ -6,18 +6,18 @@ use Rattle.messages.specs.Answers.{Answer}
 use Rattle.messages.specs.declared.Question.{Question}
 use Rattle.messages.specs.declared.Question.TheVariants.{AskBits}
 use Rattle.ends.specs.Anchors.{part}
-use Rattle.ends.proofs.laws.Invariant.{Inv, Truth, work-chain}
+use Rattle.ends.specs.laws.Invariant.{Inv, Truth, work-chain}
 use Rattle.ends.proofs.laws.TrueAnswers.{proper-now}
 use Rattle.ends.specs.Claims.{At, total}
 use Rattle.strings.specs.SettingLimits.{Limits}
 use Rattle.ends.specs.Runs.{Run, advance, judge, opening, pieces_of, question, size_of, string, honest_answer, whole, working}
-use Rattle.ends.proofs.laws.SegmentLaws.{Chain, chain-end}
+use Rattle.ends.specs.laws.SegmentLaws.{Chain, chain-end}
 use Rattle.ends.specs.Segments.{Segment, ask, asks, dropped, new_rows, settled, span, step, waiting, waits, work}
-use Rattle.ends.proofs.laws.Shape.{Shape}
+use Rattle.ends.specs.laws.Shape.{Shape}
 use Rattle.ends.specs.declared.How.{How}
 use Rattle.ends.specs.declared.Row.{Row}
 use Rattle.strings.specs.declared.settings.Settings.{Settings}
-use Rattle.strings.proofs.laws.Tests.{by-test}
+use Rattle.strings.specs.laws.Tests.{by-test}
 use Rattle.strings.specs.Bits.{max_bits}
 use Rattle.ends.specs.declared.Stage.{Stage}
 

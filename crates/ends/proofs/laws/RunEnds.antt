@@ -11,7 +11,7 @@ use Rattle.ends.specs.SheetCall.{leaves_on_sheet}
 use Rattle.ends.specs.Statement.{Admitted, Supposed, asked}
 use Rattle.ends.specs.Worlds.{Call, Each, Lent, World, after_rebuilder, bits_of_x, first_world, step_world, to_rebuilder, world_after}
 use Rattle.ends.proofs.laws.Claimed.{Known, after-claims, call_known, call-takes, first-known, list-known, waiting-reads}
-use Rattle.ends.proofs.laws.RunLaws.{after_both, each_both, length-snoc}
+use Rattle.ends.specs.laws.RunLaws.{after_both, each_both, length-snoc}
 
 module _ (c : Lent) (sup : Supposed c) where
   abbrev most : ℕ

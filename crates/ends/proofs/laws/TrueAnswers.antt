@@ -10,19 +10,19 @@ use Rattle.messages.specs.declared.Question.{Question}
 use Rattle.messages.specs.declared.Question.TheVariants.{AskBits, AskHash, AskOpen, AskSyndrome, AskBurst}
 use Rattle.ends.specs.Anchors.{part}
 use Rattle.strings.specs.SettingLimits.{Limits}
-use Rattle.ends.proofs.laws.Right.{Good, begin-ok, begin-span, one, part_length, settled-right, work-ok}
+use Rattle.ends.specs.laws.Right.{Good, begin-ok, begin-span, one, part_length, settled-right, work-ok}
 use Rattle.ends.specs.Runs.{Run, advance, judge, opening, question, size_of, honest_answer, whole, working}
-use Rattle.ends.proofs.laws.SegmentLaws.{Chain, step-chain}
+use Rattle.ends.specs.laws.SegmentLaws.{Chain, step-chain}
 use Rattle.ends.specs.Segments.{Segment, hash_of, new_rows, step, waits}
-use Rattle.ends.proofs.laws.Shape.{Inside, ProperFor}
+use Rattle.ends.specs.laws.Shape.{Inside, ProperFor}
 use Rattle.ends.specs.declared.How.TheVariants.{ByBits}
 use Rattle.ends.specs.declared.Row.{Row}
 use Rattle.strings.specs.declared.settings.Settings.{Settings}
-use Rattle.strings.proofs.laws.Tests.{by-test}
+use Rattle.strings.specs.laws.Tests.{by-test}
 use Rattle.strings.specs.Bits.{max_bits}
 use Rattle.codes.specs.Columns.{syndromes, column_length, column}
 use Rattle.codes.specs.laws.ColumnLaws.{syndromes-length, syndromes-at, column-length}
-use Rattle.ends.proofs.laws.Invariant.{Inv, Truth, hash-most, question-inside, size_of_run}
+use Rattle.ends.specs.laws.Invariant.{Inv, Truth, hash-most, question-inside, size_of_run}
 
 module _ (S : Settings) (X Y : List Bool) (L : Limits S) (n_x : length X ≤ max_bits) where
   judge-true : (n c : ℕ) (segs : List Segment) (rows : List Row) → (n ≡ length X) × Chain (Good S X) 0 segs n → Truth S X (judge S n c segs rows)

@@ -14,17 +14,17 @@ use Rattle.strings.specs.StringRule.{string_rule}
 use Rattle.strings.specs.SettingLimits.{anchor_limits, factor_limits}
 use Rattle.strings.proofs.laws.RuleLaws.{rule-is}
 use Rattle.strings.proofs.laws.RangeLaws.{range_length, range_at, range-equal, range-part, same_refl, same-is}
-use Rattle.strings.proofs.laws.Tests.{true-false, and_left, and_right}
+use Rattle.strings.specs.laws.Tests.{true-false, and_left, and_right}
 use Rattle.strings.specs.Results.{Result, refusal, value}
 use Rattle.strings.specs.Refusals.{refusal_number}
 use Rattle.strings.specs.declared.Refusal.TheVariants.{BadSetting, BadString, OutOfRange}
-use Rattle.strings.proofs.laws.ResultLaws.{by-unless}
+use Rattle.strings.specs.laws.ResultLaws.{by-unless}
 use Rattle.ends.specs.Anchors.{isqrt, distance, place_distance, part, fits, Best, place}
-use Rattle.ends.proofs.laws.AnchorLaws.{place-best}
+use Rattle.ends.specs.laws.AnchorLaws.{place-best}
 use Rattle.ends.specs.declared.anchors.Place.{Place}
 use Rattle.ends.specs.declared.anchors.Place.TheVariants.{At, Nowhere}
 use Rattle.ends.specs.AnchorSearch.{place_in, anchor_settings, anchor_range, anchor_search}
-use Rattle.ends.proofs.code.Window.{Searching, window_start, window_end}
+use Rattle.ends.specs.code.Window.{Searching, window_start, window_end}
 
 -- ---- the square root: r is the root of n
 abbrev pub Root : ℕ → ℕ → Type 0

@@ -8,7 +8,7 @@ use Rattle.std.proofs.Math.ListN.{length}
 use borrow.Author.Tests.{le-leb, lt-leb, leb-true, eqb-true}
 use Rattle.strings.specs.Refusals.{refusal_number}
 use Rattle.strings.specs.Results.{Result, refusal, value, and_then}
-use Rattle.strings.proofs.laws.Tests.{and_left, and_right, true-false}
+use Rattle.strings.specs.laws.Tests.{and_left, and_right, true-false}
 use Rattle.strings.specs.Bits.{range, write_bits, cleared, bytes_for, Part, at_front}
 use Rattle.strings.specs.StringRule.{string_rule}
 use Rattle.strings.proofs.laws.RuleLaws.{rule-is}
@@ -37,25 +37,25 @@ use Rattle.ends.specs.declared.SheetChange.TheVariants.{NoRow, OneRow}
 use Rattle.strings.specs.SettingLimits.{within_limits}
 use Rattle.ends.specs.Segments.{row, how_number, asks}
 use Rattle.ends.specs.Runs.{size_of}
-use Rattle.ends.proofs.laws.Shape.{ProperFor, Inside, sizes, size-bits}
-use Rattle.strings.proofs.laws.SettingLaws.{limits-is}
+use Rattle.ends.specs.laws.Shape.{ProperFor, Inside, sizes, size-bits}
+use Rattle.strings.specs.laws.SettingLaws.{limits-is}
 use Rattle.strings.specs.SettingLimits.{Limits}
-use Rattle.ends.proofs.laws.Right.{StageOk}
-use Rattle.ends.proofs.laws.SoundLaws.{fits-stage}
+use Rattle.ends.specs.laws.Right.{StageOk}
+use Rattle.ends.specs.laws.SoundLaws.{fits-stage}
 use Rattle.ends.specs.States.{top, planned}
 use Rattle.ends.specs.Soundness.{sound, opening_sound, phase_sound}
-use Rattle.ends.proofs.laws.SoundParts.{Framed, sound-is, phase-whole, OpeningIs, opening-is, WholeIs, whole_is, PiecesIs, top-is, ask-inside, PhaseOf, is_opening, is_pieces, is_whole, phase-of}
-use Rattle.ends.proofs.laws.SoundSteps.{fresh-sound, opening-sound, whole-sound}
-use Rattle.ends.proofs.laws.Steps.{step-opening, step-whole}
+use Rattle.ends.specs.laws.SoundParts.{Framed, sound-is, phase-whole, OpeningIs, opening-is, WholeIs, whole_is, PiecesIs, top-is, ask-inside, PhaseOf, is_opening, is_pieces, is_whole, phase-of}
+use Rattle.ends.specs.laws.SoundSteps.{fresh-sound, opening-sound, whole-sound}
+use Rattle.ends.specs.laws.Steps.{step-opening, step-whole}
 use Rattle.ends.specs.RebuilderCall.{bits_known, Taken, opening_step, whole_state, whole_step, step_of, Capacities, enough_for, awaits, rebuilder_call, starts, rebuilder_start, fresh_rebuilder, given, Started}
 use Rattle.ends.specs.declared.rebuilding.RebuilderOut.{RebuilderOut}
 use Rattle.ends.specs.declared.rebuilding.StartAnswer.TheVariants.{Begun, NotBegun}
 use Rattle.ends.specs.declared.rebuilding.StartOut.{StartOut}
-use Rattle.ends.proofs.code.StateCode.{Usable, Counts}
-use Rattle.ends.proofs.code.SoundLaws.{sound-counts}
+use Rattle.ends.specs.code.StateCode.{Usable, Counts}
+use Rattle.ends.specs.code.SoundLaws.{sound-counts}
 use Rattle.ends.specs.RebuilderOutcome.{RebuilderSaid, said_rebuilder, leaves_rebuilder, no_rebuilder, said_start, leaves_start}
-use Rattle.ends.proofs.code.RebuilderParts.{OutIs, Acting, AsksBits, RepairDue, BurstDue, burst_of, puts_in, takes_out, bits_of_stage, step_taken, Opening, WholeDue, BitsDue, due_length, Due, enough_for_answer, heard_step, turned_down}
-use Rattle.ends.proofs.code.RebuilderCodeLaws.{out-to, out-said, step-said, size-most, question-range, question-short}
+use Rattle.ends.specs.code.RebuilderParts.{OutIs, Acting, AsksBits, RepairDue, BurstDue, burst_of, puts_in, takes_out, bits_of_stage, step_taken, Opening, WholeDue, BitsDue, due_length, Due, enough_for_answer, heard_step, turned_down}
+use Rattle.ends.specs.code.RebuilderCodeLaws.{out-to, out-said, step-said, size-most, question-range, question-short}
 use Rattle.ends.specs.declared.Stage.{Stage}
 use Rattle.ends.specs.declared.Stage.TheVariants.{Hashing, PuttingIn, TakingOut, Anchor, AllBits, Columns}
 use Rattle.ends.specs.declared.Phase.{Phase}

@@ -28,31 +28,31 @@ use Rattle.ends.specs.declared.Piece.{Piece}
 use Rattle.ends.specs.declared.Rebuilder.{Rebuilder}
 use Rattle.ends.specs.declared.SheetChange.{SheetChange}
 use Rattle.ends.specs.declared.SheetChange.TheVariants.{NoRow, AddRow}
-use Rattle.ends.proofs.laws.Moves.{moved-effect}
+use Rattle.ends.specs.laws.Moves.{moved-effect}
 use Rattle.ends.specs.Segments.{placed, later_stage, settles, stays, splits, effect, trial_of, retry, hash_of, row, how_number, after_anchor, asks, offset, Effect}
-use Rattle.ends.proofs.laws.Right.{Fit, Long, offset-fits, run-apart}
+use Rattle.ends.specs.laws.Right.{Fit, Long, offset-fits, run-apart}
 use Rattle.ends.specs.States.{top, popped, restaged, retried, split_at, planned}
 use Rattle.ends.specs.Soundness.{sound, asks_before}
-use Rattle.ends.proofs.laws.SoundParts.{stage-long, Framed, sound-is, PiecesIs, pieces-is, phase-pieces, TopIs, top-is, ask-inside, PhaseOf, is_opening, is_pieces, is_whole, phase-of}
-use Rattle.ends.proofs.laws.SoundSteps.{tallied-sound, effect-tally}
-use Rattle.ends.proofs.laws.Delivery.{asks-not-open, inside-range}
+use Rattle.ends.specs.laws.SoundParts.{stage-long, Framed, sound-is, PiecesIs, pieces-is, phase-pieces, TopIs, top-is, ask-inside, PhaseOf, is_opening, is_pieces, is_whole, phase-of}
+use Rattle.ends.specs.laws.SoundSteps.{tallied-sound, effect-tally}
+use Rattle.ends.specs.laws.Delivery.{asks-not-open, inside-range}
 use Rattle.ends.specs.Anchors.{place, Best, fits as anchor_fits, place_distance, distance}
-use Rattle.ends.proofs.laws.AnchorLaws.{place-best}
-use Rattle.ends.proofs.laws.Steps.{step-pieces}
+use Rattle.ends.specs.laws.AnchorLaws.{place-best}
+use Rattle.ends.specs.laws.Steps.{step-pieces}
 use Rattle.ends.specs.RebuilderCall.{tallied, Step, effect_step, step_of, string_after, written_question}
 use Rattle.ends.specs.declared.anchors.Place.{Place}
 use Rattle.ends.specs.declared.anchors.Place.TheVariants.{At, Nowhere}
 use Rattle.ends.specs.AnchorSearch.{place_in}
-use Rattle.ends.proofs.code.Window.{Searching}
+use Rattle.ends.specs.code.Window.{Searching}
 use Rattle.ends.specs.declared.state.Plan.{Plan}
 use Rattle.ends.specs.declared.state.Plan.TheVariants.{Ask, Finished}
 use Rattle.ends.specs.declared.rebuilding.RebuilderAnswer.{RebuilderAnswer}
 use Rattle.ends.specs.declared.rebuilding.RebuilderAnswer.TheVariants.{Asks}
 use Rattle.ends.specs.declared.rebuilding.RebuilderOut.{RebuilderOut}
-use Rattle.ends.proofs.code.StateCode.{Usable, Holds, Stages, Retries, Splits, Counts, Offsets, plan_of}
-use Rattle.ends.proofs.code.SoundLaws.{sound-counts}
+use Rattle.ends.specs.code.StateCode.{Usable, Holds, Stages, Retries, Splits, Counts, Offsets, plan_of}
+use Rattle.ends.specs.code.SoundLaws.{sound-counts}
 use Rattle.ends.specs.RebuilderOutcome.{call_said, next_size, RebuilderSaid, said_rebuilder, leaves_rebuilder}
-use Rattle.ends.proofs.code.RebuilderParts.{next_answer, OutIs, Acting, Splitting, step_taken, Retriable, RepairDue, puts_in, takes_out, repair_how, BurstDue, burst_of}
+use Rattle.ends.specs.code.RebuilderParts.{next_answer, OutIs, Acting, Splitting, step_taken, Retriable, RepairDue, puts_in, takes_out, repair_how, BurstDue, burst_of}
 use Rattle.ends.specs.declared.Stage.TheVariants.{Hashing, PuttingIn, TakingOut, Anchor, AllBits, Columns}
 use Rattle.ends.specs.declared.Attempt.{Attempt}
 use Rattle.ends.specs.declared.Attempt.TheVariants.{First, Second, Third}

@@ -10,7 +10,7 @@ use Rattle.ends.specs.declared.Rebuilder.{Rebuilder}
 use Rattle.strings.specs.SettingLimits.{Limits, within_limits}
 use Rattle.ends.specs.Soundness.{bound, is_blank, blank_from, piece_fits, in_order, rows_of_waiting, asks_left, phase_sound, sound, sound_at}
 use Rattle.ends.specs.States.{no_piece, held}
-use Rattle.ends.proofs.laws.StackLaws.{held-length}
+use Rattle.ends.specs.laws.StackLaws.{held-length}
 use Rattle.strings.specs.Bits.{max_bits}
 use Rattle.ends.specs.declared.Phase.{Phase}
 

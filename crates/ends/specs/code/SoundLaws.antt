@@ -2,15 +2,15 @@
 use Rattle.std.specs.Prelude.{◌≡◌, true, ◌&&◌, ℕ, ◌≤◌, ◌<◌, eqb}
 use Rattle.std.proofs.Common.{div-le_self, arith}
 use Rattle.std.proofs.Math.Nat.{max-le}
-use Rattle.strings.proofs.laws.Tests.{by-test}
+use Rattle.strings.specs.laws.Tests.{by-test}
 use Rattle.messages.specs.Answers.{longest_numbers}
 use Rattle.ends.specs.declared.Rebuilder.{Rebuilder}
 use Rattle.ends.specs.Runs.{full, longest_answer}
 use Rattle.ends.specs.States.{top}
 use Rattle.ends.specs.Soundness.{phase_sound, most_counted, sound, sound_at}
-use Rattle.ends.proofs.laws.SoundParts.{Framed, sound-is, OpeningIs, opening-is, PiecesIs, pieces-is, phase-pieces, WholeIs, whole_is, top-is, stage-long}
-use Rattle.ends.proofs.laws.Counts.{before-most}
-use Rattle.ends.proofs.code.StateCode.{Counts, Asks, Plans}
+use Rattle.ends.specs.laws.SoundParts.{Framed, sound-is, OpeningIs, opening-is, PiecesIs, pieces-is, phase-pieces, WholeIs, whole_is, top-is, stage-long}
+use Rattle.ends.specs.laws.Counts.{before-most}
+use Rattle.ends.specs.code.StateCode.{Counts, Asks, Plans}
 use Rattle.ends.specs.declared.Phase.{Phase}
 use Rattle.ends.specs.declared.Phase.TheVariants.{AtOpening, AtPieces, AtWhole}
 use Rattle.ends.specs.Segments.{asks}

@@ -3,7 +3,7 @@ use Rattle.std.specs.Prelude.{◌≡◌, cond, ◌||◌, true, false, ℕ, ◌+�
 use Rattle.std.proofs.Math.Path.{refl}
 use Rattle.std.proofs.Common.{sym, ap, ◌∙◌, le_refl, arith}
 use Rattle.std.proofs.Math.Option.{Option, none, some}
-use Rattle.strings.proofs.laws.Tests.{by-test}
+use Rattle.strings.specs.laws.Tests.{by-test}
 use Rattle.messages.specs.declared.Question.{Question}
 use Rattle.strings.specs.declared.settings.Settings.{Settings}
 use Rattle.ends.specs.declared.Piece.{Piece}

@@ -5,7 +5,7 @@ use Rattle.std.proofs.Math.Option.{Option, none, some}
 use Rattle.std.proofs.Math.Decide.{ℕ_discrete}
 use Rattle.ends.specs.Anchors.{Best, place_distance, fits, nearer, nearest, place, places}
 use Rattle.ends.specs.Segments.{first_stage}
-use Rattle.strings.proofs.laws.Tests.{true-false}
+use Rattle.strings.specs.laws.Tests.{true-false}
 
 nearest-best : (f : ℕ → Bool) (d : ℕ → ℕ) (i n : ℕ) → Best f d i n (nearest f d (places i n))
 nearest-best f d i zero = λ r a b e. absurd (omega arith)

@@ -5,7 +5,7 @@ use Rattle.std.proofs.Common.{sym, ap, ◌∙◌, arith, ne_eqb}
 use Rattle.std.proofs.Math.Bool.{true}
 use Rattle.std.proofs.Math.Option.{Option, none, some}
 use Rattle.std.proofs.Math.Dec.{eqb}
-use Rattle.strings.proofs.laws.ResultLaws.{no_value, unless-passed, then-passed, value-is}
+use Rattle.strings.specs.laws.ResultLaws.{no_value, unless-passed, then-passed, value-is}
 use Rattle.strings.specs.Refusals.{refusal_number}
 use Rattle.strings.specs.Results.{value}
 use Rattle.messages.specs.laws.AnswerLaws.{answer-form}
@@ -15,11 +15,11 @@ use Rattle.messages.specs.declared.Question.{Question}
 use Rattle.ends.specs.RebuilderCall.{Capacities, Step, awaits, bits_known, given, rebuilder_call, enough_for, step_of, takes, written_question, Taken}
 use Rattle.ends.specs.Runs.{size_of}
 use Rattle.ends.specs.Segments.{asks, step}
-use Rattle.ends.proofs.laws.SoundSteps.{step-sound}
+use Rattle.ends.specs.laws.SoundSteps.{step-sound}
 use Rattle.ends.specs.Soundness.{sound}
-use Rattle.ends.proofs.laws.Standing.{Stands}
+use Rattle.ends.specs.laws.Standing.{Stands}
 use Rattle.ends.specs.States.{held, no_piece, planned, top, planned_at}
-use Rattle.ends.proofs.laws.Store.{Store, ask_store, ask_top, store}
+use Rattle.ends.specs.laws.Store.{Store, ask_store, ask_top, store}
 use Rattle.ends.specs.declared.Piece.{Piece}
 use Rattle.ends.specs.declared.Rebuilder.{Rebuilder}
 use Rattle.ends.specs.declared.Row.{Row}

@@ -12,15 +12,15 @@ use Rattle.codes.specs.Repair.{put_in, take_out}
 use Rattle.messages.specs.Answers.{Answer}
 use Rattle.ends.specs.Anchors.{part, place, distance}
 use Rattle.strings.specs.SettingLimits.{Limits}
-use Rattle.ends.proofs.laws.Right.{Fit, StageOk, offset-fits}
+use Rattle.ends.specs.laws.Right.{Fit, StageOk, offset-fits}
 use Rattle.ends.specs.Runs.{copies, copy_of}
-use Rattle.ends.proofs.laws.SegmentLaws.{Chain}
+use Rattle.ends.specs.laws.SegmentLaws.{Chain}
 use Rattle.ends.specs.Segments.{Effect, Segment, begin, dropped, effect, first_stage, hash_of, later_stage, made, placed, retry, rows_of, settled, settles, splits, stays, step, the_bits, the_hash, the_syndrome, too_small, trial, trial_of, waiting, offset, after_anchor, is_burst, the_syndromes}
-use Rattle.ends.proofs.laws.Shape.{Shape}
+use Rattle.ends.specs.laws.Shape.{Shape}
 use Rattle.ends.specs.declared.How.{How}
 use Rattle.ends.specs.declared.How.TheVariants.{ByAnchor, ByHash, ByPutIn, ByTakeOut, ByBurst}
 use Rattle.strings.specs.declared.settings.Settings.{Settings}
-use Rattle.strings.proofs.laws.Tests.{by-test}
+use Rattle.strings.specs.laws.Tests.{by-test}
 use Rattle.ends.specs.Claims.{is_wait, total}
 use Rattle.ends.specs.Soundness.{bound, asks_before}
 use Rattle.ends.specs.declared.Stage.TheVariants.{Hashing, PuttingIn, TakingOut, Anchor, AllBits, Columns}

@@ -3,24 +3,24 @@ use Rattle.std.specs.Prelude.{◌≡◌, refl, Bool, true, ◌&&◌, List, [], �
 use Rattle.std.proofs.Common.{ap, sym, arith, leb-true, le-leb}
 use Rattle.std.proofs.Math.Option.{some}
 use Rattle.std.proofs.Math.Seq.{length-sets}
-use Rattle.strings.proofs.laws.ResultLaws.{unless-passed, value-is}
+use Rattle.strings.specs.laws.ResultLaws.{unless-passed, value-is}
 use Rattle.messages.specs.Answers.{Answer}
 use Rattle.messages.specs.laws.QuestionLaws.{InRange}
 use Rattle.messages.specs.Questions.{question_bytes, question_length}
 use Rattle.messages.specs.declared.Question.{Question}
 use Rattle.messages.specs.declared.Question.TheVariants.{AskBits, AskHash, AskOpen, AskSyndrome, AskBurst}
 use Rattle.strings.specs.SettingLimits.{Limits, within_limits}
-use Rattle.ends.proofs.laws.Kept.{Opened}
-use Rattle.ends.proofs.laws.Moves.{effect_state, moved-effect, moved-opening}
+use Rattle.ends.specs.laws.Kept.{Opened}
+use Rattle.ends.specs.laws.Moves.{effect_state, moved-effect, moved-opening}
 use Rattle.ends.specs.RebuilderCall.{StringChange, clears, effect_step, fresh_rebuilder, keeps, no_row, opening_step, rebuilder_start, sheet_after, starts, step_of, string_after, tallied, whole_step, writes, Started}
 use Rattle.ends.specs.Runs.{Run, advance, judge, opening, question, size_of, string, whole, working}
 use Rattle.ends.specs.Segments.{Effect, Segment, ask, asks, dropped, effect, new_rows, settled, settles, splits, stays, step, the_bits, the_size, waiting, waits}
-use Rattle.ends.proofs.laws.Shape.{Inside}
-use Rattle.strings.proofs.laws.SettingLaws.{limits-is}
-use Rattle.ends.proofs.laws.SoundParts.{PhaseOf, is_opening, is_pieces, is_whole, phase-of, sound-is, top-is}
+use Rattle.ends.specs.laws.Shape.{Inside}
+use Rattle.strings.specs.laws.SettingLaws.{limits-is}
+use Rattle.ends.specs.laws.SoundParts.{PhaseOf, is_opening, is_pieces, is_whole, phase-of, sound-is, top-is}
 use Rattle.ends.specs.Soundness.{sound}
 use Rattle.ends.specs.States.{planned, popped, restaged, retried, split_at, top}
-use Rattle.ends.proofs.laws.Steps.{step-opening, step-pieces, step-whole}
+use Rattle.ends.specs.laws.Steps.{step-opening, step-pieces, step-whole}
 use Rattle.ends.specs.declared.Rebuilder.{Rebuilder}
 use Rattle.ends.specs.declared.Row.{Row}
 use Rattle.strings.specs.declared.settings.Settings.{Settings}
@@ -29,7 +29,7 @@ use Rattle.ends.specs.declared.SheetChange.TheVariants.{AddRow, NoRow, OneRow}
 use Rattle.strings.specs.Bits.{bytes_for, range, max_bits}
 use Rattle.strings.proofs.laws.PackLaws.{length-cleared}
 use Rattle.strings.specs.StringRule.{string_rule}
-use Rattle.strings.proofs.laws.Tests.{by-test}
+use Rattle.strings.specs.laws.Tests.{by-test}
 use Rattle.strings.proofs.laws.WriteLaws.{length-write_bits}
 use Rattle.strings.specs.declared.Refusal.TheVariants.{BadSetting, BadString, BufferTooShort}
 use Rattle.ends.specs.declared.Stage.TheVariants.{Hashing, PuttingIn, TakingOut, Anchor, AllBits, Columns}

@@ -4,7 +4,7 @@ use Rattle.std.proofs.Math.Path.{sym}
 use Rattle.std.proofs.Common.{◌∙◌, ap, inl, inr, arith}
 use Rattle.std.proofs.Math.Dec.{ltb}
 use borrow.Author.Tests.{ltb-true, leb-true, le-leb, not-true, eq-eqb}
-use Rattle.strings.proofs.laws.ResultLaws.{unless-passed, then-passed, value-is}
+use Rattle.strings.specs.laws.ResultLaws.{unless-passed, then-passed, value-is}
 use Rattle.strings.specs.Results.{value}
 use Rattle.messages.specs.laws.QuestionLaws.{Within, OpeningWithin, fields_within}
 use Rattle.messages.specs.Answers.{answer_bytes}
@@ -22,7 +22,7 @@ use Rattle.ends.specs.declared.Holder.{Holder}
 use Rattle.strings.specs.Bits.{range, max_bits}
 use Rattle.strings.proofs.laws.RuleLaws.{rule-is}
 use Rattle.strings.specs.StringRule.{string_rule}
-use Rattle.strings.proofs.laws.Tests.{and_left, both, and_right}
+use Rattle.strings.specs.laws.Tests.{and_left, both, and_right}
 use Rattle.strings.specs.declared.Refusal.TheVariants.{BadString, BufferTooShort, OutOfTurn}
 
 -- ---- a call of the holder that was answered

@@ -11,17 +11,17 @@ use Rattle.codes.specs.laws.HashLaws.{hash-below}
 use Rattle.messages.specs.Answers.{Answer}
 use Rattle.messages.specs.declared.Question.{Question}
 use Rattle.messages.specs.declared.Question.TheVariants.{AskBits, AskOpen}
-use Rattle.ends.proofs.laws.Counts.{Nest, begin-copy, begin-nest, begin-norow, begin-pot, begin-rows, begin-wait, before-most, falls-pot, falls-rows, keeps-copy, pot, row_cost, sane, step-nest}
+use Rattle.ends.specs.laws.Counts.{Nest, begin-copy, begin-nest, begin-norow, begin-pot, begin-rows, begin-wait, before-most, falls-pot, falls-rows, keeps-copy, pot, row_cost, sane, step-nest}
 use Rattle.ends.specs.Claims.{is_wait, row_sum, total}
 use Rattle.strings.specs.SettingLimits.{Limits}
-use Rattle.ends.proofs.laws.Right.{Good, begin-span}
+use Rattle.ends.specs.laws.Right.{Good, begin-span}
 use Rattle.ends.specs.Runs.{Run, advance, copies, copy_of, judge, opening, question, size_of, whole, working, full, longest_answer}
-use Rattle.ends.proofs.laws.SegmentLaws.{Chain, ask-waits, chain-end, found, row_sum-append, step-chain, step-copies, step_falls, step-rows}
+use Rattle.ends.specs.laws.SegmentLaws.{Chain, ask-waits, chain-end, found, row_sum-append, step-chain, step-copies, step_falls, step-rows}
 use Rattle.ends.specs.Segments.{Segment, ask, asks, begin, dropped, effect, hash_of, new_rows, rows_of, settled, step, the_size, waiting, waits, work}
-use Rattle.ends.proofs.laws.Shape.{Inside, ProperFor, Shape, asks-inside, begin-shape, proper-bits, proper-full, proper-size, sizes, work-shape}
+use Rattle.ends.specs.laws.Shape.{Inside, ProperFor, Shape, asks-inside, begin-shape, proper-bits, proper-full, proper-size, sizes, work-shape}
 use Rattle.ends.specs.declared.Row.{Row}
 use Rattle.strings.specs.declared.settings.Settings.{Settings}
-use Rattle.strings.proofs.laws.Tests.{true-false}
+use Rattle.strings.specs.laws.Tests.{true-false}
 use Rattle.strings.specs.Bits.{max_bits}
 use Rattle.ends.specs.declared.Stage.{Stage}
 

@@ -8,17 +8,17 @@ use Rattle.std.proofs.lemmas.Bool.{lt-leb}
 use Rattle.messages.specs.Answers.{Answer}
 use Rattle.ends.specs.Anchors.{part}
 use Rattle.ends.specs.Claims.{is_wait, Settled, row_sum, total, At, Finished, Collision, covers}
-use Rattle.ends.proofs.laws.Counts.{pot, row_cost}
-use Rattle.ends.proofs.laws.Invariant.{Held, Inv, Truth}
+use Rattle.ends.specs.laws.Counts.{pot, row_cost}
+use Rattle.ends.specs.laws.Invariant.{Held, Inv, Truth}
 use Rattle.strings.specs.SettingLimits.{Limits}
-use Rattle.ends.proofs.laws.Right.{Good}
+use Rattle.ends.specs.laws.Right.{Good}
 use Rattle.ends.specs.Runs.{Run, advance, blank, copies, count_of, judge, opening, pieces_of, question, run, sheet_of, size_of, string, whole, working, full, longest_answer}
-use Rattle.ends.proofs.laws.SegmentLaws.{Chain}
+use Rattle.ends.specs.laws.SegmentLaws.{Chain}
 use Rattle.ends.specs.Segments.{Segment, ask, dropped, new_rows, row, rows_of, settled, span, step, waiting, waits}
 use Rattle.ends.specs.declared.How.{How}
 use Rattle.ends.specs.declared.Row.{Row}
 use Rattle.strings.specs.declared.settings.Settings.{Settings}
-use Rattle.strings.proofs.laws.Tests.{by-test, true-false}
+use Rattle.strings.specs.laws.Tests.{by-test, true-false}
 use Rattle.strings.specs.Bits.{max_bits}
 
 pub chain-at : (P : ℕ → Segment → Type 0) (x e : ℕ) (segs : List Segment) (y : ℕ) (s : Segment) → Chain P x segs e → At x segs y s → P y s

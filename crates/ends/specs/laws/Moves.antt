@@ -11,14 +11,14 @@ use Rattle.std.proofs.Math.ListN.{get_or}
 use Rattle.std.proofs.Math.Seq.{get_or-set_other}
 use Rattle.ends.specs.Runs.{blank}
 use Rattle.ends.specs.Segments.{Effect, settles, splits, stays}
-use Rattle.ends.proofs.laws.StackLaws.{held-push, held-set}
+use Rattle.ends.specs.laws.StackLaws.{held-push, held-set}
 use Rattle.ends.specs.RebuilderCall.{opened_state, opening_step}
 use Rattle.ends.specs.States.{held, left_piece, no_piece, popped, pushed, restaged, retried, right_piece, split_at, stacked, top}
-use Rattle.ends.proofs.laws.Store.{push, stack_after}
+use Rattle.ends.specs.laws.Store.{push, stack_after}
 use Rattle.ends.specs.declared.Piece.{Piece}
 use Rattle.ends.specs.declared.Rebuilder.{Rebuilder}
 use Rattle.strings.specs.declared.settings.Settings.{Settings}
-use Rattle.strings.proofs.laws.Tests.{by-test}
+use Rattle.strings.specs.laws.Tests.{by-test}
 use Rattle.ends.specs.declared.Stage.{Stage}
 
 -- every entry from index w on is empty

@@ -4,7 +4,7 @@ use Rattle.std.proofs.Math.Option.{Option, none, some}
 use Rattle.strings.specs.Bits.{range}
 use Rattle.strings.specs.SettingLimits.{within_limits}
 use Rattle.strings.specs.StringRule.{string_rule}
-use Rattle.strings.proofs.laws.ResultLaws.{Numbered, numbered-refusal, numbered-then, numbered-unless, numbered-value}
+use Rattle.strings.specs.laws.ResultLaws.{Numbered, numbered-refusal, numbered-then, numbered-unless, numbered-value}
 use Rattle.strings.specs.declared.Refusal.TheVariants.{BadSetting, BadString, OutOfTurn, BufferTooShort}
 use Rattle.strings.specs.declared.settings.Settings.{Settings}
 use Rattle.messages.specs.Answers.{answer_bytes, read_answer}

@@ -11,12 +11,12 @@ use Rattle.codes.specs.Syndrome.{syndrome}
 use Rattle.ends.specs.Anchors.{part, place, distance}
 use Rattle.strings.specs.SettingLimits.{Limits}
 use Rattle.ends.specs.Runs.{honest_answer}
-use Rattle.ends.proofs.laws.SegmentLaws.{Chain}
+use Rattle.ends.specs.laws.SegmentLaws.{Chain}
 use Rattle.ends.specs.Segments.{Effect, Segment, asks, begin, dropped, effect, first_stage, hash_of, later_stage, made, placed, retry, settled, span, too_small, trial, trial_of, waiting, work, after_anchor, offset, is_burst}
 use Rattle.ends.specs.declared.How.{How}
 use Rattle.ends.specs.declared.How.TheVariants.{ByAnchor, ByBits, ByHash, ByPutIn, ByTakeOut, ByBurst}
 use Rattle.strings.specs.declared.settings.Settings.{Settings}
-use Rattle.strings.proofs.laws.Tests.{by-test, and_left, and_right}
+use Rattle.strings.specs.laws.Tests.{by-test, and_left, and_right}
 use Rattle.ends.specs.Claims.{Agrees, Near, Settled, run_gained, run_lost, unchanged}
 use Rattle.ends.specs.declared.Stage.TheVariants.{Hashing, PuttingIn, TakingOut, Anchor, AllBits, Columns}
 use Rattle.ends.specs.declared.Attempt.{Attempt}

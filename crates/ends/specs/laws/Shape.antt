@@ -14,14 +14,14 @@ use Rattle.messages.specs.declared.Question.{Question}
 use Rattle.messages.specs.declared.Question.TheVariants.{AskBits, AskHash, AskOpen, AskSyndrome, AskBurst}
 use Rattle.ends.specs.Anchors.{place, distance}
 use Rattle.strings.specs.SettingLimits.{Limits}
-use Rattle.ends.proofs.laws.Right.{Fit, StageOk, after-ok, begin-span, first-ok, later-ok, offset-fits, run-apart}
+use Rattle.ends.specs.laws.Right.{Fit, StageOk, after-ok, begin-span, first-ok, later-ok, offset-fits, run-apart}
 use Rattle.ends.specs.Runs.{size_of, full, longest_answer}
-use Rattle.ends.proofs.laws.SegmentLaws.{Chain}
+use Rattle.ends.specs.laws.SegmentLaws.{Chain}
 use Rattle.ends.specs.Segments.{Effect, Segment, asks, begin, dropped, effect, hash_of, made, placed, retry, settled, settles, span, the_bits, the_hash, the_size, the_syndrome, trial, trial_of, waiting, work, offset, after_anchor, the_syndromes}
 use Rattle.ends.specs.declared.How.{How}
 use Rattle.ends.specs.declared.How.TheVariants.{ByHash, ByPutIn, ByTakeOut, ByBurst}
 use Rattle.strings.specs.declared.settings.Settings.{Settings}
-use Rattle.strings.proofs.laws.Tests.{by-test}
+use Rattle.strings.specs.laws.Tests.{by-test}
 use Rattle.ends.specs.declared.Stage.TheVariants.{Hashing, PuttingIn, TakingOut, Anchor, AllBits, Columns}
 use Rattle.strings.specs.Bits.{max_bits}
 use Rattle.ends.specs.declared.Stage.{Stage}

@@ -3,19 +3,19 @@ use Rattle.std.specs.Prelude.{◌≡◌, refl, true, ◌&&◌, List, ℕ, zero, 
 use native.Mathlib.Omega.{arith}
 use Rattle.std.proofs.Common.{leb-true}
 use Rattle.strings.specs.Bits.{bytes_for, range, max_bits}
-use Rattle.strings.proofs.laws.Tests.{and_left, and_right}
-use Rattle.ends.proofs.laws.Asking.{TakenCall, taken-call}
+use Rattle.strings.specs.laws.Tests.{and_left, and_right}
+use Rattle.ends.specs.laws.Asking.{TakenCall, taken-call}
 use Rattle.ends.specs.RebuilderCall.{Capacities, Step, bits_known, change_row, effect_step, opening_step, rebuilder_call, enough_for, rows_needed, step_of, takes, whole_step}
 use Rattle.ends.specs.Segments.{Effect, effect, how_number, settles, splits, stays}
 use Rattle.messages.specs.Answers.{Answer}
-use Rattle.ends.proofs.laws.SoundParts.{Framed, PhaseOf, is_opening, is_pieces, is_whole, phase-of, sound-is, top-is}
+use Rattle.ends.specs.laws.SoundParts.{Framed, PhaseOf, is_opening, is_pieces, is_whole, phase-of, sound-is, top-is}
 use Rattle.strings.proofs.laws.RangeLaws.{range_length}
-use Rattle.ends.proofs.laws.Counts.{Sane, sane}
-use Rattle.ends.proofs.laws.Right.{StageOk}
-use Rattle.ends.proofs.laws.SoundLaws.{fits-stage}
+use Rattle.ends.specs.laws.Counts.{Sane, sane}
+use Rattle.ends.specs.laws.Right.{StageOk}
+use Rattle.ends.specs.laws.SoundLaws.{fits-stage}
 use Rattle.ends.specs.Soundness.{rows_of_waiting}
 use Rattle.ends.specs.States.{held, top}
-use Rattle.ends.proofs.laws.Steps.{step-opening, step-pieces, step-whole}
+use Rattle.ends.specs.laws.Steps.{step-opening, step-pieces, step-whole}
 use Rattle.ends.specs.declared.How.{How}
 use Rattle.ends.specs.declared.How.TheVariants.{ByHash, ByPutIn, ByTakeOut, ByAnchor, ByBits, ByBurst}
 use Rattle.ends.specs.declared.Piece.{Piece}

@@ -5,13 +5,13 @@ use Rattle.std.proofs.Math.Decide.{ℕ_discrete}
 use Rattle.std.proofs.lemmas.Bool.{not-true}
 use Rattle.ends.specs.Soundness.{bound, blank_from, in_order, is_blank, piece_fits, stage_fits}
 use Rattle.strings.specs.SettingLimits.{Limits}
-use Rattle.ends.proofs.laws.Moves.{Blank}
-use Rattle.ends.proofs.laws.Right.{StageOk, long-is, burst-is}
+use Rattle.ends.specs.laws.Moves.{Blank}
+use Rattle.ends.specs.laws.Right.{StageOk, long-is, burst-is}
 use Rattle.ends.specs.Segments.{later_stage, too_small, after_anchor, next_stage, first_stage, is_burst}
 use Rattle.ends.specs.States.{no_piece}
 use Rattle.ends.specs.declared.Piece.{Piece}
 use Rattle.strings.specs.declared.settings.Settings.{Settings}
-use Rattle.strings.proofs.laws.Tests.{and_left, and_right, both, and-true}
+use Rattle.strings.specs.laws.Tests.{and_left, and_right, both, and-true}
 use Rattle.ends.specs.declared.Stage.{Stage}
 use Rattle.ends.specs.declared.Stage.TheVariants.{Hashing, PuttingIn, TakingOut, Anchor, AllBits, Columns}
 use Rattle.ends.specs.declared.Attempt.{Attempt}

@@ -9,18 +9,18 @@ use Rattle.messages.specs.declared.Question.TheVariants.{AskBits, AskOpen}
 use Rattle.ends.specs.Anchors.{fits}
 use Rattle.ends.specs.Soundness.{bound, asks_left, blank_from, in_order, most_counted, opening_sound, phase_sound, pieces_sound, rows_in_limit, rows_of_waiting, sound, stack_sound, stage_fits, top_fits, whole_sound, asks_before, is_hashing, sound_at}
 use Rattle.strings.specs.SettingLimits.{Limits, within_limits}
-use Rattle.ends.proofs.laws.Moves.{Blank, held-top}
-use Rattle.ends.proofs.laws.Right.{Long, StageOk, offset-fits}
+use Rattle.ends.specs.laws.Moves.{Blank, held-top}
+use Rattle.ends.specs.laws.Right.{Long, StageOk, offset-fits}
 use Rattle.ends.specs.Runs.{blank, longest_answer}
 use Rattle.ends.specs.Segments.{asks, waiting}
-use Rattle.ends.proofs.laws.Shape.{Inside}
-use Rattle.strings.proofs.laws.SettingLaws.{is-limits, limits-is}
-use Rattle.ends.proofs.laws.SoundLaws.{Ordered, blank-is, fits-stage, is-blank, is-order, order_is}
-use Rattle.ends.proofs.laws.StackLaws.{held-length}
+use Rattle.ends.specs.laws.Shape.{Inside}
+use Rattle.strings.specs.laws.SettingLaws.{is-limits, limits-is}
+use Rattle.ends.specs.laws.SoundLaws.{Ordered, blank-is, fits-stage, is-blank, is-order, order_is}
+use Rattle.ends.specs.laws.StackLaws.{held-length}
 use Rattle.ends.specs.States.{held, no_piece, planned, top, planned_at}
 use Rattle.ends.specs.declared.Rebuilder.{Rebuilder}
 use Rattle.strings.specs.declared.settings.Settings.{Settings}
-use Rattle.strings.proofs.laws.Tests.{both, and-true}
+use Rattle.strings.specs.laws.Tests.{both, and-true}
 use Rattle.ends.specs.declared.Stage.{Stage}
 use Rattle.ends.specs.declared.Stage.TheVariants.{Hashing, PuttingIn, TakingOut, Anchor, AllBits, Columns}
 use Rattle.ends.specs.declared.Attempt.{Attempt}

@@ -11,26 +11,26 @@ use Rattle.std.proofs.lemmas.Bool.{eqb-false}
 use Rattle.messages.specs.Answers.{Answer}
 use Rattle.messages.specs.declared.Question.{Question}
 use Rattle.ends.specs.Anchors.{fits}
-use Rattle.ends.proofs.laws.Counts.{Sane, before-most, cut, deep, deeper, sane}
+use Rattle.ends.specs.laws.Counts.{Sane, before-most, cut, deep, deeper, sane}
 use Rattle.ends.specs.Soundness.{bound, asks_left, opening_sound, rows_of_waiting, sound, stage_fits, top_fits, asks_before, is_hashing}
 use Rattle.strings.specs.SettingLimits.{Limits}
-use Rattle.ends.proofs.laws.Moves.{Blank, effect_state, held-top, moved-effect, moved-opening}
+use Rattle.ends.specs.laws.Moves.{Blank, effect_state, held-top, moved-effect, moved-opening}
 use Rattle.ends.specs.RebuilderCall.{counting, effect_step, fresh_rebuilder, opened_state, opening_step, step_of, tallied, whole_step}
-use Rattle.ends.proofs.laws.Right.{StageOk}
+use Rattle.ends.specs.laws.Right.{StageOk}
 use Rattle.ends.specs.Runs.{blank, size_of, full, longest_answer}
 use Rattle.ends.specs.Segments.{Effect, asks, effect, settles, splits, stays, the_bits, the_size, next_stage, first_stage, later_stage, too_small}
-use Rattle.ends.proofs.laws.Shape.{Inside, ProperFor, proper-full, proper-size, sizes}
-use Rattle.ends.proofs.laws.SoundLaws.{Ordered, first_fits, fits-stage, next_fits, ordered-from}
+use Rattle.ends.specs.laws.Shape.{Inside, ProperFor, proper-full, proper-size, sizes}
+use Rattle.ends.specs.laws.SoundLaws.{Ordered, first_fits, fits-stage, next_fits, ordered-from}
 use Rattle.ends.specs.States.{held, left_piece, no_piece, planned, popped, pushed, restaged, retried, right_piece, split_at, top}
-use Rattle.ends.proofs.laws.Steps.{step-opening, step-pieces, step-whole}
-use Rattle.ends.proofs.laws.Store.{Landed, landed, push, rows_after, stack_after}
+use Rattle.ends.specs.laws.Steps.{step-opening, step-pieces, step-whole}
+use Rattle.ends.specs.laws.Store.{Landed, landed, push, rows_after, stack_after}
 use Rattle.ends.specs.declared.Piece.{Piece}
 use Rattle.ends.specs.declared.Rebuilder.{Rebuilder}
 use Rattle.strings.specs.declared.settings.Settings.{Settings}
 use Rattle.strings.specs.Bits.{range, max_bits}
 use Rattle.strings.proofs.laws.RangeLaws.{range_length}
-use Rattle.strings.proofs.laws.Tests.{by-test}
-use Rattle.ends.proofs.laws.SoundParts.{StackIs, Framed, sound-is, is-sound, PiecesIs, is-pieces, WholeIs, is-whole, phase-pieces, phase-whole, OpeningIs, top-is, ask-inside, PhaseOf, phase-of, is_opening, is_pieces, is_whole}
+use Rattle.strings.specs.laws.Tests.{by-test}
+use Rattle.ends.specs.laws.SoundParts.{StackIs, Framed, sound-is, is-sound, PiecesIs, is-pieces, WholeIs, is-whole, phase-pieces, phase-whole, OpeningIs, top-is, ask-inside, PhaseOf, phase-of, is_opening, is_pieces, is_whole}
 use Rattle.ends.specs.declared.Stage.TheVariants.{Hashing, PuttingIn, TakingOut, Anchor, AllBits, Columns}
 use Rattle.ends.specs.declared.Attempt.TheVariants.{First, Second, Third}
 use Rattle.ends.specs.declared.Phase.{Phase}

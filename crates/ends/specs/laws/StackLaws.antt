@@ -8,12 +8,12 @@ use Rattle.messages.specs.Answers.{Answer}
 use Rattle.ends.specs.Anchors.{place, distance}
 use Rattle.ends.specs.Segments.{Effect, effect, first_stage, hash_of, later_stage, placed, retry, settles, splits, stays, the_bits, the_hash, the_syndrome, trial, trial_of, offset, after_anchor, next_stage, the_syndromes}
 use Rattle.ends.specs.States.{held, no_piece}
-use Rattle.ends.proofs.laws.Store.{any_piece, top_stage}
+use Rattle.ends.specs.laws.Store.{any_piece, top_stage}
 use Rattle.ends.specs.declared.How.{How}
 use Rattle.ends.specs.declared.How.TheVariants.{ByHash, ByPutIn, ByTakeOut, ByBurst}
 use Rattle.ends.specs.declared.Piece.{Piece}
 use Rattle.strings.specs.declared.settings.Settings.{Settings}
-use Rattle.strings.proofs.laws.Tests.{by-test}
+use Rattle.strings.specs.laws.Tests.{by-test}
 use Rattle.ends.specs.declared.Stage.TheVariants.{Hashing, PuttingIn, TakingOut, Anchor, AllBits, Columns}
 use Rattle.ends.specs.declared.Attempt.{Attempt}
 use Rattle.ends.specs.declared.Stage.{Stage}

@@ -10,14 +10,14 @@ use Rattle.std.proofs.Math.Seq.{drop-append-add, take-append_seam}
 use Rattle.std.proofs.lemmas.List.Edits.{sets, sets-eq}
 use Rattle.std.proofs.Math.Dec.{ltb}
 use Rattle.ends.specs.Claims.{rows_at_front}
-use Rattle.ends.proofs.laws.Kept.{blank-length}
-use Rattle.ends.proofs.laws.Moves.{Moved, effect_state, moved-effect, moved-push}
+use Rattle.ends.specs.laws.Kept.{blank-length}
+use Rattle.ends.specs.laws.Moves.{Moved, effect_state, moved-effect, moved-push}
 use Rattle.ends.specs.RebuilderCall.{effect_step, no_row, opened_state, opening_step, sheet_after, string_after, tallied, whole_step}
 use Rattle.ends.specs.Runs.{blank, string}
 use Rattle.ends.specs.Segments.{Effect, row, settles, splits, stays, next_stage, first_stage}
-use Rattle.ends.proofs.laws.StackLaws.{IsNext, held_any, restage-held}
+use Rattle.ends.specs.laws.StackLaws.{IsNext, held_any, restage-held}
 use Rattle.ends.specs.States.{held, left_piece, no_piece, popped, pushed, restaged, retried, right_piece, split_at, top}
-use Rattle.ends.proofs.laws.Store.{Store, applied, phase_after, push, rows_after, stack_after, stage_after, store, top_stage}
+use Rattle.ends.specs.laws.Store.{Store, applied, phase_after, push, rows_after, stack_after, stage_after, store, top_stage}
 use Rattle.ends.specs.declared.How.TheVariants.{ByAnchor, ByBits}
 use Rattle.ends.specs.declared.Piece.{Piece}
 use Rattle.ends.specs.declared.Rebuilder.{Rebuilder}
@@ -25,7 +25,7 @@ use Rattle.ends.specs.declared.Row.{Row}
 use Rattle.strings.specs.declared.settings.Settings.{Settings}
 use Rattle.strings.specs.Bits.{at_front, bytes_for, cleared, pack, write_bits}
 use Rattle.strings.proofs.laws.PackLaws.{front-cleared, front-write, length_over}
-use Rattle.strings.proofs.laws.StoreLaws.{sets-front}
+use Rattle.strings.specs.laws.StoreLaws.{sets-front}
 use Rattle.strings.proofs.laws.WriteLaws.{over}
 use Rattle.ends.specs.declared.Phase.TheVariants.{AtWhole, AtPieces}
 use Rattle.ends.specs.declared.Stage.{Stage}

@@ -10,21 +10,21 @@ use Rattle.messages.specs.declared.Question.{Question}
 use Rattle.messages.specs.declared.Question.TheVariants.{AskBits}
 use Rattle.ends.specs.Anchors.{part}
 use Rattle.ends.specs.Claims.{is_wait, row_sum, rows_at_front, total, zeroed_next}
-use Rattle.ends.proofs.laws.Counts.{row_cost}
-use Rattle.ends.proofs.laws.Invariant.{Held, Inv, work-chain}
-use Rattle.ends.proofs.laws.Kept.{rows-cost, rows-length}
+use Rattle.ends.specs.laws.Counts.{row_cost}
+use Rattle.ends.specs.laws.Invariant.{Held, Inv, work-chain}
+use Rattle.ends.specs.laws.Kept.{rows-cost, rows-length}
 use Rattle.strings.specs.SettingLimits.{Limits}
-use Rattle.ends.proofs.laws.Moves.{held-top}
+use Rattle.ends.specs.laws.Moves.{held-top}
 use Rattle.ends.specs.RebuilderCall.{effect_step, opening_step, sheet_after, step_of, string_after, whole_step}
-use Rattle.ends.proofs.laws.Right.{begin-span, part_length}
+use Rattle.ends.specs.laws.Right.{begin-span, part_length}
 use Rattle.ends.specs.Runs.{Run, copies, opening, question, size_of, whole, working}
-use Rattle.ends.proofs.laws.SegmentLaws.{Chain, ask-waits, chain-end, copies-append}
+use Rattle.ends.specs.laws.SegmentLaws.{Chain, ask-waits, chain-end, copies-append}
 use Rattle.ends.specs.Segments.{Effect, Segment, ask, asks, dropped, effect, made, row, rows_of, settled, settles, span, splits, stays, the_bits, the_size, waiting, waits, work}
-use Rattle.ends.proofs.laws.Shape.{ProperFor, Shape, proper-bits}
-use Rattle.ends.proofs.laws.StackLaws.{IsNext, held-length, is-next}
-use Rattle.ends.proofs.laws.Standing.{Stands, InPiece, stands-effect, stands-opening, stands-whole}
+use Rattle.ends.specs.laws.Shape.{ProperFor, Shape, proper-bits}
+use Rattle.ends.specs.laws.StackLaws.{IsNext, held-length, is-next}
+use Rattle.ends.specs.laws.Standing.{Stands, InPiece, stands-effect, stands-opening, stands-whole}
 use Rattle.ends.specs.States.{held, no_piece, top}
-use Rattle.ends.proofs.laws.Store.{Store, any_piece, applied, ask-front, chain-front, first_waiting, rows_after, stack-front, stack-waits, stack_of, stage-front, stage_of_top, step_store, store, store_of}
+use Rattle.ends.specs.laws.Store.{Store, any_piece, applied, ask-front, chain-front, first_waiting, rows_after, stack-front, stack-waits, stack_of, stage-front, stage_of_top, step_store, store, store_of}
 use Rattle.ends.specs.declared.How.TheVariants.{ByBits}
 use Rattle.ends.specs.declared.Piece.{Piece}
 use Rattle.ends.specs.declared.Rebuilder.{Rebuilder}
@@ -33,7 +33,7 @@ use Rattle.strings.specs.declared.settings.Settings.{Settings}
 use Rattle.strings.specs.Bits.{at_front, bytes_for, pack, range}
 use Rattle.strings.proofs.laws.PackLaws.{pack-none}
 use Rattle.strings.proofs.laws.RangeLaws.{range-part}
-use Rattle.strings.proofs.laws.Tests.{true-false}
+use Rattle.strings.specs.laws.Tests.{true-false}
 use Rattle.ends.specs.declared.Phase.{Phase}
 use Rattle.ends.specs.declared.Phase.TheVariants.{AtOpening, AtPieces, AtWhole}
 use Rattle.ends.specs.declared.Stage.{Stage}

@@ -13,22 +13,22 @@ use Rattle.messages.specs.Answers.{Answer}
 use Rattle.messages.specs.declared.Question.{Question}
 use Rattle.messages.specs.declared.Question.TheVariants.{AskBits, AskOpen}
 use Rattle.ends.specs.Anchors.{place_distance, fits, nearer, nearest, part, place, places, distance}
-use Rattle.ends.proofs.laws.Counts.{Sane, begin-norow, sane}
-use Rattle.ends.proofs.laws.Invariant.{Inv, work-chain}
-use Rattle.ends.proofs.laws.Kept.{blank-length}
+use Rattle.ends.specs.laws.Counts.{Sane, begin-norow, sane}
+use Rattle.ends.specs.laws.Invariant.{Inv, work-chain}
+use Rattle.ends.specs.laws.Kept.{blank-length}
 use Rattle.strings.specs.SettingLimits.{Limits}
-use Rattle.ends.proofs.laws.Right.{begin-span}
+use Rattle.ends.specs.laws.Right.{begin-span}
 use Rattle.ends.specs.Runs.{Run, advance, bits_of, blank, copies, judge, opening, question, size_of, string, whole, working}
-use Rattle.ends.proofs.laws.SegmentLaws.{Chain, ask-waits, chain-end, copies-append}
+use Rattle.ends.specs.laws.SegmentLaws.{Chain, ask-waits, chain-end, copies-append}
 use Rattle.ends.specs.Claims.{total}
 use Rattle.ends.specs.Segments.{Effect, Segment, ask, asks, begin, dropped, effect, first_stage, hash_of, made, new_rows, placed, retry, row, rows_of, settled, settles, span, splits, stays, step, the_bits, the_hash, the_size, the_syndrome, trial, trial_of, waiting, waits, work, offset, after_anchor, the_syndromes}
-use Rattle.ends.proofs.laws.Shape.{ProperFor, Shape}
+use Rattle.ends.specs.laws.Shape.{ProperFor, Shape}
 use Rattle.ends.specs.declared.How.{How}
 use Rattle.ends.specs.declared.How.TheVariants.{ByAnchor, ByBits, ByHash, ByPutIn, ByTakeOut, ByBurst}
 use Rattle.ends.specs.declared.Piece.{Piece}
 use Rattle.ends.specs.declared.Row.{Row}
 use Rattle.strings.specs.declared.settings.Settings.{Settings}
-use Rattle.strings.proofs.laws.Tests.{by-test, true-false}
+use Rattle.strings.specs.laws.Tests.{by-test, true-false}
 use Rattle.strings.proofs.laws.WriteLaws.{over}
 use Rattle.ends.specs.declared.Stage.TheVariants.{Anchor, AllBits, Hashing, PuttingIn, TakingOut, Columns}
 use Rattle.ends.specs.declared.Phase.{Phase}

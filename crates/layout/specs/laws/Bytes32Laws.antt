@@ -6,7 +6,7 @@ use Rattle.std.proofs.Math.Nat.{add_assoc, div-div-eq-div-mul}
 use Rattle.std.proofs.lemmas.List.Edits.{sets}
 use Rattle.strings.specs.Bits.{Bytes}
 use Rattle.layout.specs.Bytes32.{bytes_of, word_at}
-use Rattle.strings.proofs.laws.StoreLaws.{get_d_sets_before, get_d-sets-behind, get_d-sets-in}
+use Rattle.strings.specs.laws.StoreLaws.{get_d_sets_before, get_d-sets-behind, get_d-sets-in}
 
 -- a number's digits to base 256
 pub digits : (v : ℕ) → v < 4294967296 → v % 256 + 256 * (v / 256 % 256) + 65536 * (v / 65536 % 256) + 16777216 * (v / 16777216 % 256) ≡ v

@@ -13,9 +13,9 @@ use Rattle.ends.specs.declared.Stage.{Stage}
 use Rattle.ends.specs.States.{no_piece}
 use Rattle.layout.specs.Bytes32.{bytes_of, word_at}
 use Rattle.layout.specs.Layout.{all_bytes, opened_number, opened_of, phase_number, phase_of, stage_number, stage_of, holder_size, holder_bytes, holder_of, is_holder, piece_bytes, piece_at, pieces_bytes, pieces_at, rebuilder_size, head_bytes, rebuilder_bytes, fields_of, rebuilder_of, is_rebuilder}
-use Rattle.strings.proofs.laws.StoreLaws.{sets-append, sets-front}
+use Rattle.strings.specs.laws.StoreLaws.{sets-append, sets-front}
 use Rattle.strings.specs.Bits.{Bytes}
-use Rattle.strings.proofs.laws.Tests.{and_left, and-true}
+use Rattle.strings.specs.laws.Tests.{and_left, and-true}
 use Rattle.layout.specs.laws.Bytes32Laws.{digits, number_behind, number-below}
 use Rattle.layout.specs.laws.CaseLaws.{opened-most, opened-back, phase-most, phase-back, stage-most, stage-back}
 

@@ -9,7 +9,7 @@ use native.Mathlib.Omega.{arith}
 use Rattle.std.proofs.Math.Seq.{sets, drop-cons}
 use Rattle.strings.specs.Bits.{bit_at, range}
 use Rattle.strings.proofs.laws.RangeLaws.{rest, rest-is, rest-last, range_length}
-use Rattle.strings.proofs.laws.StoreLaws.{sets-append}
+use Rattle.strings.specs.laws.StoreLaws.{sets-append}
 use Rattle.lines.specs.Fields.{newline_byte, blank_byte}
 use Rattle.lines.specs.Printing.{Puts, hex_digit, hex_of, digits_in, decimal, bit_byte, bit_bytes, message_line, row_line, last_line, refusal_line}
 

@@ -10,8 +10,8 @@ use Rattle.std.proofs.lemmas.List.Edits.{sets}
 use Rattle.std.proofs.lemmas.Bool.{lt-leb}
 use Rattle.strings.specs.Refusals.{refusal_number}
 use Rattle.strings.specs.Results.{Result, refusal, value, unless, and_then}
-use Rattle.strings.proofs.laws.StoreLaws.{sets-append}
-use Rattle.strings.proofs.laws.ResultLaws.{no_value, value-is}
+use Rattle.strings.specs.laws.StoreLaws.{sets-append}
+use Rattle.strings.specs.laws.ResultLaws.{no_value, value-is}
 use Rattle.strings.specs.declared.Refusal.{Refusal}
 use Rattle.strings.specs.declared.Refusal.TheVariants.{TrailingBytes, OutOfRange}
 use Rattle.codes.specs.Columns.{column_length}

@@ -7,17 +7,17 @@ use Rattle.std.proofs.Math.Decide.{dec_lt}
 use native.Mathlib.Omega.{arith}
 use Rattle.std.proofs.Math.ListN.{length, get_or-eq_default, length-append, length-drop}
 use borrow.Author.Tests.{lt-ltb, le-leb, lt-leb, eq-eqb, ne_eqb, ltb-true, leb-true, eqb-true}
-use Rattle.strings.proofs.laws.ResultLaws.{value-is}
+use Rattle.strings.specs.laws.ResultLaws.{value-is}
 use Rattle.strings.specs.Bits.{max_bits, range, bytes_for, pack}
 use Rattle.strings.specs.StringRule.{string_rule, IsString}
 use Rattle.strings.specs.Refusals.{refusal_number}
 use Rattle.strings.specs.Results.{Result, refusal, value, unless}
-use Rattle.strings.proofs.laws.Tests.{and_left, and_right, and-true}
+use Rattle.strings.specs.laws.Tests.{and_left, and_right, and-true}
 use Rattle.strings.proofs.laws.RangeLaws.{range_length, range-behind}
 use Rattle.strings.proofs.laws.RuleLaws.{rule-is, is-rule}
 use Rattle.strings.specs.Bits.{Bytes}
 use Rattle.strings.proofs.laws.PackLaws.{length-pack, pack-bits, pack-string, string-packed}
-use Rattle.strings.proofs.laws.ResultLaws.{unless-passed, then-passed}
+use Rattle.strings.specs.laws.ResultLaws.{unless-passed, then-passed}
 use Rattle.strings.specs.declared.Refusal.TheVariants.{Truncated, BadKind, TrailingBytes, OutOfRange}
 use Rattle.codes.specs.Columns.{column_length}
 use Rattle.messages.specs.declared.Kind.{Kind}

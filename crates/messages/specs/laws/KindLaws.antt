@@ -1,11 +1,11 @@
 -- Laws of kinds: each has its number, and the kind of a message is read from its first byte.
 use Rattle.std.specs.Prelude.{◌≡◌, refl, List, ◌++◌, ℕ, zero, suc, ◌+◌, ◌≤◌, length, drop}
 use Rattle.std.proofs.Common.{ap, ap₂, ◌∙◌, arith}
-use Rattle.strings.proofs.laws.ResultLaws.{value-is}
+use Rattle.strings.specs.laws.ResultLaws.{value-is}
 use Rattle.strings.specs.Refusals.{refusal_number}
 use Rattle.strings.specs.Results.{Result, refusal, value, mapped}
 use Rattle.strings.specs.Bits.{Bytes}
-use Rattle.strings.proofs.laws.ResultLaws.{no_value, then-passed}
+use Rattle.strings.specs.laws.ResultLaws.{no_value, then-passed}
 use Rattle.strings.specs.declared.Refusal.TheVariants.{BadKind}
 use Rattle.messages.specs.declared.Kind.{Kind}
 use Rattle.messages.specs.declared.Kind.TheVariants.{Open, Hash, Syndrome, Bits, Burst}

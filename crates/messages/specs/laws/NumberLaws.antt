@@ -11,13 +11,13 @@ use Rattle.std.proofs.lemmas.List.Edits.{sets}
 use Rattle.std.proofs.Math.Seq.{drop-append_seam}
 use Rattle.std.proofs.lemmas.List.{drop-append-le}
 use borrow.Author.Tests.{lt-ltb, le-ltb, le-leb, lt-leb, ltb-true, ltb-false, leb-true}
-use Rattle.strings.proofs.laws.ResultLaws.{value-is}
+use Rattle.strings.specs.laws.ResultLaws.{value-is}
 use Rattle.strings.specs.Bits.{max_bits}
 use Rattle.strings.specs.Refusals.{refusal_number}
 use Rattle.strings.specs.Results.{Result, refusal, value, and_then}
 use Rattle.strings.specs.Bits.{Bytes}
-use Rattle.strings.proofs.laws.Tests.{by-test}
-use Rattle.strings.proofs.laws.ResultLaws.{unless-passed, then-passed}
+use Rattle.strings.specs.laws.Tests.{by-test}
+use Rattle.strings.specs.laws.ResultLaws.{unless-passed, then-passed}
 use Rattle.strings.specs.declared.Refusal.TheVariants.{Truncated, BadNumber}
 use Rattle.messages.specs.Numbers.{groups, number, next_byte, number_at, two_at, three_at, all_numbers, numbers_at}
 

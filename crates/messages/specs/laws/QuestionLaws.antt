@@ -2,13 +2,13 @@
 use Rattle.std.specs.Prelude.{◌≡◌, refl, List, [], ◌++◌, ℕ, ◌+◌, ◌≤◌, ◌<◌, length, drop, leb, eqb}
 use Rattle.std.proofs.Common.{sym, ap, ap₂, ◌∙◌, length-append, drop_at, lit≤, le-leb, leb-true, eqb-true}
 use native.Mathlib.Omega.{arith}
-use Rattle.strings.proofs.laws.ResultLaws.{value-is}
+use Rattle.strings.specs.laws.ResultLaws.{value-is}
 use Rattle.strings.specs.Bits.{max_bits}
 use Rattle.strings.specs.SettingLimits.{between, hash_limits, key_limits}
 use Rattle.strings.specs.Results.{value}
-use Rattle.strings.proofs.laws.Tests.{and_left, and_right}
+use Rattle.strings.specs.laws.Tests.{and_left, and_right}
 use Rattle.strings.specs.Bits.{Bytes}
-use Rattle.strings.proofs.laws.ResultLaws.{unless-passed, then-passed}
+use Rattle.strings.specs.laws.ResultLaws.{unless-passed, then-passed}
 use Rattle.strings.specs.declared.Refusal.TheVariants.{TrailingBytes, OutOfRange, BadBurst}
 use Rattle.messages.specs.declared.Kind.{Kind}
 use Rattle.messages.specs.declared.Kind.TheVariants.{Open, Hash, Syndrome, Bits, Burst}

@@ -4,7 +4,7 @@ use Rattle.strings.specs.Bits.{max_bits, bytes_for, range}
 use Rattle.strings.specs.Results.{Result, value, unless, and_then, mapped}
 use Rattle.strings.specs.SettingLimits.{between, hash_limits, key_limits}
 use Rattle.strings.specs.StringRule.{string_rule}
-use Rattle.strings.proofs.laws.ResultLaws.{Numbered, numbered-mapped, numbered-refusal, numbered-then, numbered-unless, numbered-value}
+use Rattle.strings.specs.laws.ResultLaws.{Numbered, numbered-mapped, numbered-refusal, numbered-then, numbered-unless, numbered-value}
 use Rattle.strings.specs.declared.Refusal.TheVariants.{Truncated, BadNumber, BadKind, TrailingBytes, OutOfRange, BadBurst}
 use Rattle.messages.specs.declared.Kind.{Kind}
 use Rattle.messages.specs.declared.Kind.TheVariants.{Open, Hash, Syndrome, Bits, Burst}

@@ -6,11 +6,11 @@ use Rattle.std.proofs.lemmas.List.Edits.{sets, sets-eq}
 use Rattle.std.proofs.lemmas.Bool.{lt-leb}
 use Rattle.strings.specs.Bits.{range, bytes_for, pack, cleared, write_bits, at_front}
 use Rattle.strings.proofs.laws.RangeLaws.{range_length}
-use Rattle.strings.proofs.laws.StoreLaws.{sets-append, sets-front}
+use Rattle.strings.specs.laws.StoreLaws.{sets-append, sets-front}
 use Rattle.strings.proofs.laws.PackLaws.{write-cleared}
 use Rattle.strings.specs.Refusals.{refusal_number}
 use Rattle.strings.specs.declared.Refusal.TheVariants.{BufferTooShort}
-use Rattle.strings.proofs.laws.ResultLaws.{no_value, value-is}
+use Rattle.strings.specs.laws.ResultLaws.{no_value, value-is}
 use Rattle.messages.specs.declared.WriteResult.{WriteResult}
 use Rattle.messages.specs.declared.WriteResult.TheVariants.{Written, TooShort}
 use Rattle.messages.specs.Writing.{Wrote, said_write, put_front}

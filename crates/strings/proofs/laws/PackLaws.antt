@@ -12,7 +12,7 @@ use Rattle.std.proofs.lemmas.Nat.{xor_lt}
 use Rattle.std.proofs.Math.Pow.{pow-lt}
 use Rattle.strings.specs.Bits.{max_bits, Bytes, bit_at, range, bytes_for, flipped, set_bit, differs, write_bits, zero_bytes, pack, cleared, at_front}
 use Rattle.strings.specs.StringRule.{IsString}
-use Rattle.strings.proofs.laws.StoreLaws.{sets-front}
+use Rattle.strings.specs.laws.StoreLaws.{sets-front}
 use Rattle.strings.proofs.laws.RangeLaws.{range_length, range_at}
 use Rattle.strings.proofs.laws.WriteLaws.{length-write_bits, write-outside, write-inside, over, range-write, write-front, write-behind}
 use Rattle.strings.proofs.laws.RuleLaws.{low-digits, digit-is}

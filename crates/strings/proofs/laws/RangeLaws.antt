@@ -2,7 +2,7 @@
 use Rattle.std.specs.Prelude.{◌≡◌, refl, Bool, true, false, List, [], ◌∷◌, ◌++◌, ℕ, zero, suc, ◌+◌, ◌-◌, ◌*◌, ◌≤◌, ◌<◌, take, drop, length, get_or}
 use Rattle.std.proofs.Common.{sym, ap, ap₂, ◌∙◌, zero-add, suc-add, add-zero, add-suc, add-one, arith, take_at, drop_at}
 use Rattle.strings.specs.Bits.{bit_at, range, same_bits}
-use Rattle.strings.proofs.laws.Tests.{true-false}
+use Rattle.strings.specs.laws.Tests.{true-false}
 use Rattle.strings.proofs.laws.BitLaws.{bit-behind}
 
 pub range_length : (s : List ℕ) (a n : ℕ) → length (range s a n) ≡ n

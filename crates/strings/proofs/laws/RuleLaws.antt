@@ -13,7 +13,7 @@ use Rattle.std.proofs.lemmas.Nat.{mod-pow-add}
 use borrow.Author.Tests.{eqb-true, eq-eqb, le-leb, leb-true}
 use Rattle.strings.specs.Bits.{max_bits, bit_at, range, bytes_for}
 use Rattle.strings.specs.StringRule.{none_set, string_rule, IsString}
-use Rattle.strings.proofs.laws.Tests.{true-false, and_left, and_right}
+use Rattle.strings.specs.laws.Tests.{true-false, and_left, and_right}
 use Rattle.strings.proofs.laws.BitLaws.{bit_past}
 use Rattle.strings.proofs.laws.RangeLaws.{range_length, range_at}
 

@@ -3,7 +3,7 @@ use Rattle.std.specs.Prelude.{◌≡◌, refl, true, ◌&&◌, leb}
 use Rattle.std.proofs.Common.{arith, leb-true, le-leb}
 use Rattle.strings.specs.SettingLimits.{between, Limits, within_limits}
 use Rattle.strings.specs.declared.settings.Settings.{Settings}
-use Rattle.strings.proofs.laws.Tests.{both}
+use Rattle.strings.specs.laws.Tests.{both}
 
 pub limits-is : (S : Settings) → within_limits S ≡ true → Limits S
 unfolding within_limits

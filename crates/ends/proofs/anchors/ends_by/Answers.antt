@@ -1,5 +1,5 @@
 -- `anchors::ends_by` meets its contract. Assumes nothing.
-use Rattle.ends.proofs.code.AnchorSearchLaws.{ends-late, ends-by-rest}
+use Rattle.ends.specs.code.AnchorSearchLaws.{ends-late, ends-by-rest}
 use Rattle.ends.proofs.anchors.ends_by.Goals as goal
 
 pub returns-then-end-len : goal.returns-then-end-len

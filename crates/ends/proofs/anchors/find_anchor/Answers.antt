@@ -3,7 +3,7 @@ use mathlib.Core.Path.{◌≡◌, sym, ◌∙◌}
 use mathlib.Core.Bool.{true}
 use Rattle.strings.specs.StringRule.{string_rule}
 use Rattle.ends.specs.AnchorSearch.{anchor_settings, anchor_range}
-use Rattle.ends.proofs.code.AnchorSearchLaws.{bad-setting, bad-copy, bad-anchor, out_of_range, tested-ready, answers_at, answers-nowhere}
+use Rattle.ends.specs.code.AnchorSearchLaws.{bad-setting, bad-copy, bad-anchor, out_of_range, tested-ready, answers_at, answers-nowhere}
 use Rattle.ends.proofs.anchors.find_anchor.Goals as goal
 
 pub returns-then-not-keeps_anchor_settings : goal.returns-then-not-keeps_anchor_settings

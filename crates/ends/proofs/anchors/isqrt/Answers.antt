@@ -1,6 +1,6 @@
 use Prim.Native.Nat.{◌+◌, ◌-◌}
 use native.Mathlib.Omega.{arith}
-use Rattle.ends.proofs.code.AnchorSearchLaws.{root_is, square-grows, square-fits}
+use Rattle.ends.specs.code.AnchorSearchLaws.{root_is, square-grows, square-fits}
 use Rattle.ends.proofs.anchors.isqrt.Goals as goal
 
 pub overflow_mul-r : goal.overflow_mul-r

@@ -1,5 +1,5 @@
 -- `anchors::keeps_anchor_range` meets its contract. Assumes nothing.
-use Rattle.ends.proofs.code.AnchorSearchLaws.{range-piece, range-length-high, range-offset}
+use Rattle.ends.specs.code.AnchorSearchLaws.{range-piece, range-length-high, range-offset}
 use Rattle.ends.proofs.anchors.keeps_anchor_range.Goals as goal
 
 pub returns-then-not-ends_by : goal.returns-then-not-ends_by

@@ -1,5 +1,5 @@
 -- `anchors::keeps_anchor_settings` meets its contract. Assumes nothing.
-use Rattle.ends.proofs.code.AnchorSearchLaws.{anchor-settings-are}
+use Rattle.ends.specs.code.AnchorSearchLaws.{anchor-settings-are}
 use Rattle.ends.proofs.anchors.keeps_anchor_settings.Goals as goal
 
 pub returns : goal.returns

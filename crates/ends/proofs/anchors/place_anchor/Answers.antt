@@ -1,7 +1,7 @@
 use Prim.Native.Nat.{◌+◌, ◌-◌, ◌*◌, ◌≤◌, ◌<◌}
 use native.Mathlib.Omega.{arith}
 use borrow.Author.Rules.{rules}
-use Rattle.ends.proofs.code.AnchorSearchLaws.{isqrt-le, reach-fits, end-most, end-near, end-less, start-most, start-near, alike-none, alike_next, search-start, search-differs, search-agrees, search-at, search-nowhere}
+use Rattle.ends.specs.code.AnchorSearchLaws.{isqrt-le, reach-fits, end-most, end-near, end-less, start-most, start-near, alike-none, alike_next, search-start, search-differs, search-agrees, search-at, search-nowhere}
 use Rattle.ends.proofs.anchors.place_anchor.Goals as goal
 
 pub overflow_mul-reach-2 : goal.overflow_mul-reach-2

@@ -2,8 +2,8 @@
 -- Assumes nothing.
 use mathlib.Core.Path.{◌≡◌}
 use Prim.Native.Nat.{◌+◌, ◌-◌, ◌*◌, ◌≤◌, ◌<◌}
-use Rattle.ends.proofs.code.Window.{window_end}
-use Rattle.ends.proofs.code.AnchorSearchLaws.{Alike, Searched}
+use Rattle.ends.specs.code.Window.{window_end}
+use Rattle.ends.specs.code.AnchorSearchLaws.{Alike, Searched}
 use Rattle.ends.proofs.anchors.place_anchor.Given as goal
 
 abbrev pub invariant-loop-j : goal.invariant-loop-j

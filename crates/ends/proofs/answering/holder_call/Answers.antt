@@ -6,7 +6,7 @@ use Rattle.strings.specs.StringRule.{string_rule}
 use Rattle.ends.specs.Soundness.{holder_sound, most_answers}
 use Rattle.ends.specs.HolderCall.{same_bit_count}
 use Rattle.ends.proofs.code.HolderCodeLaws.{call-no-kind, refused-holder, tests-able, able-few, call-bad-string, call-out-of-turn, call-kind, said-by}
-use Rattle.strings.proofs.laws.Tests.{test-is}
+use Rattle.strings.specs.laws.Tests.{test-is}
 use Rattle.ends.proofs.answering.holder_call.Goals as goal
 
 pub returns-then-not-both : goal.returns-then-not-both

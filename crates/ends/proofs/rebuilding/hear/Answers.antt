@@ -6,9 +6,9 @@ use native.Mathlib.Omega.{arith}
 use lib.ListN.{length}
 use Rattle.ends.specs.RebuilderCall.{awaits, given}
 use Rattle.ends.specs.RebuilderOutcome.{capacities}
-use Rattle.ends.proofs.code.RebuilderParts.{Due}
-use Rattle.ends.proofs.laws.SoundParts.{sound-is}
-use Rattle.ends.proofs.code.RebuilderCallLaws.{burst-most, due, awaits-hears, hears-short, hears-long, taken-said, refused-said}
+use Rattle.ends.specs.code.RebuilderParts.{Due}
+use Rattle.ends.specs.laws.SoundParts.{sound-is}
+use Rattle.ends.specs.code.RebuilderCallLaws.{burst-most, due, awaits-hears, hears-short, hears-long, taken-said, refused-said}
 use borrow.Author.Rules.{rules}
 use Rattle.ends.proofs.rebuilding.hear.Goals as goal
 

@@ -2,7 +2,7 @@ use mathlib.Core.Path.{◌≡◌, sym, ap, ◌∙◌}
 use mathlib.Core.Bool.{Bool}
 use Rattle.messages.specs.declared.AnswerRead.{AnswerRead}
 use Rattle.ends.specs.RebuilderOutcome.{capacities}
-use Rattle.ends.proofs.code.RebuilderParts.{enough_for_answer}
+use Rattle.ends.specs.code.RebuilderParts.{enough_for_answer}
 use Rattle.ends.proofs.rebuilding.is_enough_for_answer.Goals as goal
 
 -- the capacity is that of the answer as it was read

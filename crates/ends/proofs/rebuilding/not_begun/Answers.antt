@@ -1,4 +1,4 @@
-use Rattle.ends.proofs.code.RebuilderCallLaws.{not-begun-out}
+use Rattle.ends.specs.code.RebuilderCallLaws.{not-begun-out}
 use Rattle.ends.proofs.rebuilding.not_begun.Goals as goal
 
 pub returns : goal.returns

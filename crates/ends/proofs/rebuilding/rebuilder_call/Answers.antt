@@ -9,10 +9,10 @@ use Rattle.ends.specs.Soundness.{sound}
 use Rattle.ends.specs.States.{planned}
 use Rattle.ends.specs.RebuilderCall.{awaits, rebuilder_call}
 use Rattle.ends.specs.RebuilderOutcome.{capacities}
-use Rattle.ends.proofs.code.SoundLaws.{sound-plans}
-use Rattle.strings.proofs.laws.Tests.{test-is}
-use Rattle.ends.proofs.code.RebuilderCodeLaws.{none-planned, some-planned}
-use Rattle.ends.proofs.code.RebuilderCallLaws.{call-bad-string, call-unsound, call-awaits, copy-there, taken-said, refused-said}
+use Rattle.ends.specs.code.SoundLaws.{sound-plans}
+use Rattle.strings.specs.laws.Tests.{test-is}
+use Rattle.ends.specs.code.RebuilderCodeLaws.{none-planned, some-planned}
+use Rattle.ends.specs.code.RebuilderCallLaws.{call-bad-string, call-unsound, call-awaits, copy-there, taken-said, refused-said}
 use Rattle.ends.proofs.rebuilding.rebuilder_call.Goals as goal
 
 pub returns-then-not-both : goal.returns-then-not-both

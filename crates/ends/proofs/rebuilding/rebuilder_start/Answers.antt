@@ -3,7 +3,7 @@ use mathlib.Core.Bool.{true}
 use native.Mathlib.Omega.{arith}
 use Rattle.strings.specs.StringRule.{string_rule}
 use Rattle.strings.specs.SettingLimits.{within_limits}
-use Rattle.ends.proofs.code.RebuilderCallLaws.{start-refused, start-bad-setting, start-bad-string, start-too-short, start_small, start_fits, start-begun}
+use Rattle.ends.specs.code.RebuilderCallLaws.{start-refused, start-bad-setting, start-bad-string, start-too-short, start_small, start_fits, start-begun}
 use Rattle.ends.proofs.rebuilding.rebuilder_start.Goals as goal
 
 pub returns-then-not-is_within_limits : goal.returns-then-not-is_within_limits

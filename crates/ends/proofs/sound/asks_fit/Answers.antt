@@ -1,6 +1,6 @@
 use native.Mathlib.Omega.{arith}
 use native.Mathlib.Nat.{div-le_self}
-use Rattle.ends.proofs.code.SoundCode.{asks-left}
+use Rattle.ends.specs.code.SoundCode.{asks-left}
 use Rattle.ends.proofs.sound.asks_fit.Goals as goal
 
 pub overflow_mul-result : goal.overflow_mul-result

@@ -7,7 +7,7 @@ use borrow.Author.Rules.{rules}
 use Rattle.ends.specs.States.{no_piece}
 use Rattle.ends.specs.declared.Piece.{Piece}
 use Rattle.ends.specs.Soundness.{is_blank, blank_from}
-use Rattle.ends.proofs.code.SoundCode.{blank-next, blank-not, blank-all}
+use Rattle.ends.specs.code.SoundCode.{blank-next, blank-not, blank-all}
 use Rattle.ends.proofs.sound.blank_behind.Goals as goal
 
 and-false : (k : Bool) → (k && false) ≡ false

@@ -4,7 +4,7 @@ use native.Mathlib.Omega.{arith}
 use borrow.Author.Rules.{rules}
 use Rattle.ends.specs.States.{held}
 use Rattle.ends.specs.Soundness.{in_order}
-use Rattle.ends.proofs.code.SoundCode.{order-next, order-not, order-all}
+use Rattle.ends.specs.code.SoundCode.{order-next, order-not, order-all}
 use Rattle.ends.proofs.sound.in_order.Goals as goal
 
 pub loop-i-init : goal.loop-i-init

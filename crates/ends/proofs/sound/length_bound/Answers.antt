@@ -3,7 +3,7 @@ use Prim.Native.Nat.{◌-◌}
 use native.Mathlib.Omega.{arith}
 use borrow.Author.Rules.{rules}
 use Rattle.ends.specs.Soundness.{bound}
-use Rattle.ends.proofs.code.SoundCode.{bound-next}
+use Rattle.ends.specs.code.SoundCode.{bound-next}
 use Rattle.ends.proofs.sound.length_bound.Goals as goal
 
 pub loop-i-init : goal.loop-i-init

@@ -1,5 +1,5 @@
 use Rattle.ends.specs.declared.Phase.TheVariants.{AtOpening, AtPieces, AtWhole}
-use Rattle.ends.proofs.code.SoundCode.{sound-phase}
+use Rattle.ends.specs.code.SoundCode.{sound-phase}
 use Rattle.ends.proofs.sound.phase_is_sound.Goals as goal
 
 pub returns-in-AtOpening : goal.returns-in-AtOpening

@@ -1,6 +1,6 @@
 use mathlib.Core.Path.{sym, ◌∙◌}
-use Rattle.strings.proofs.laws.SettingLaws.{limits-is}
-use Rattle.ends.proofs.code.SoundCode.{sound-settings, sound-ybits, sound-n, sound-waiting, sound-rest}
+use Rattle.strings.specs.laws.SettingLaws.{limits-is}
+use Rattle.ends.specs.code.SoundCode.{sound-settings, sound-ybits, sound-n, sound-waiting, sound-rest}
 use Rattle.ends.proofs.sound.rebuilder_is_sound.Goals as goal
 
 pub returns-then-not-is_within_limits : goal.returns-then-not-is_within_limits

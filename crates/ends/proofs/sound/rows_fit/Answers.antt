@@ -1,6 +1,6 @@
 use native.Mathlib.Nat.{div-le_self}
 use native.Mathlib.Omega.{arith}
-use Rattle.ends.proofs.code.SoundCode.{rows_left}
+use Rattle.ends.specs.code.SoundCode.{rows_left}
 use Rattle.ends.proofs.sound.rows_fit.Goals as goal
 
 pub overflow_mul-result : goal.overflow_mul-result

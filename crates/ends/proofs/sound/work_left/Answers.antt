@@ -1,6 +1,6 @@
 use Prim.Native.Nat.{◌-◌}
 use native.Mathlib.Omega.{arith}
-use Rattle.ends.proofs.code.SoundCode.{work-turn, work_none, part_small}
+use Rattle.ends.specs.code.SoundCode.{work-turn, work_none, part_small}
 use Rattle.ends.proofs.sound.work_left.Goals as goal
 
 pub loop-i-init : goal.loop-i-init

@@ -1,7 +1,7 @@
 use mathlib.Core.Path.{◌≡◌}
 use Prim.Native.Nat.{◌+◌, ◌-◌, ◌*◌, ◌≤◌}
 use Rattle.ends.specs.States.{held}
-use Rattle.ends.proofs.code.SoundCode.{work_left}
+use Rattle.ends.specs.code.SoundCode.{work_left}
 use Rattle.ends.proofs.sound.work_left.Given as goal
 
 abbrev pub invariant-loop-i : goal.invariant-loop-i

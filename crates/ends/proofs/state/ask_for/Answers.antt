@@ -1,6 +1,6 @@
 use mathlib.Core.Path.{refl}
 use native.Mathlib.Omega.{arith}
-use Rattle.ends.proofs.code.StateCode.{offset-below}
+use Rattle.ends.specs.code.StateCode.{offset-below}
 use Rattle.ends.proofs.state.ask_for.Goals as goal
 
 pub anchor_offset-requires : goal.anchor_offset-requires

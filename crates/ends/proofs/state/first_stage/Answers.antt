@@ -1,5 +1,5 @@
 use mathlib.Core.Path.{sym, ◌∙◌}
-use Rattle.ends.proofs.code.StateCode.{stage-same, stage-less, stage-more, stage-columns, stage-far}
+use Rattle.ends.specs.code.StateCode.{stage-same, stage-less, stage-more, stage-columns, stage-far}
 use Rattle.ends.proofs.state.first_stage.Goals as goal
 
 pub returns-then-b-a : goal.returns-then-b-a

@@ -1,7 +1,7 @@
 use mathlib.Core.Path.{◌∙◌, ap}
 use Rattle.ends.specs.States.{restaged}
 use Rattle.ends.specs.RebuilderCall.{opening_step}
-use Rattle.ends.proofs.code.StateCode.{stages-push}
+use Rattle.ends.specs.code.StateCode.{stages-push}
 use borrow.Author.Rules.{rules}
 use Rattle.ends.proofs.state.open_state.Goals as goal
 

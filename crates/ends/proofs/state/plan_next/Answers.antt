@@ -1,5 +1,5 @@
 use Rattle.ends.specs.declared.Phase.TheVariants.{AtPieces}
-use Rattle.ends.proofs.code.StateCode.{plan-at}
+use Rattle.ends.specs.code.StateCode.{plan-at}
 use mathlib.Core.Path.{refl}
 use native.Mathlib.Omega.{arith}
 use borrow.Author.Tests.{eq-eqb, ne_eqb}

@@ -1,6 +1,6 @@
 use mathlib.Core.Path.{ap}
 use native.Mathlib.Omega.{arith}
-use Rattle.ends.proofs.code.StateCode.{after-pop, after_push, stages-after, split-is}
+use Rattle.ends.specs.code.StateCode.{after-pop, after_push, stages-after, split-is}
 use Rattle.ends.proofs.state.split_at.Goals as goal
 
 pub overflow_add-right : goal.overflow_add-right

@@ -7,8 +7,8 @@ use Rattle.ends.specs.RebuilderCall.{written_question}
 use Rattle.ends.specs.declared.Rebuilder.{Rebuilder}
 use Rattle.ends.specs.declared.SheetChange.TheVariants.{NoRow}
 use Rattle.ends.specs.declared.rebuilding.RebuilderOut.{RebuilderOut}
-use Rattle.ends.proofs.code.RebuilderParts.{next_answer, OutIs}
-use Rattle.ends.proofs.code.RebuilderCodeLaws.{finished-out, short-out, asked-out}
+use Rattle.ends.specs.code.RebuilderParts.{next_answer, OutIs}
+use Rattle.ends.specs.code.RebuilderCodeLaws.{finished-out, short-out, asked-out}
 use Rattle.ends.proofs.steps.ask.Goals as goal
 
 -- what is given says its answer and its question

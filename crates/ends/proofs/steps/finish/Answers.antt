@@ -1,5 +1,5 @@
 use mathlib.Core.Path.{ap, ◌∙◌}
-use Rattle.ends.proofs.code.SoundLaws.{sound-plans}
+use Rattle.ends.specs.code.SoundLaws.{sound-plans}
 use Rattle.ends.specs.declared.rebuilding.RebuilderAnswer.{RebuilderAnswer}
 use Rattle.ends.proofs.steps.finish.Goals as goal
 

@@ -1,4 +1,4 @@
-use Rattle.ends.proofs.code.RebuilderCodeLaws.{retries, retried-counts, retried-sound, retried-out}
+use Rattle.ends.specs.code.RebuilderCodeLaws.{retries, retried-counts, retried-sound, retried-out}
 use Rattle.ends.proofs.steps.leave_waiting.Goals as goal
 
 pub retry-one-requires : goal.retry-one-requires

@@ -1,4 +1,4 @@
-use Rattle.ends.proofs.code.RebuilderParts.{repair_how}
+use Rattle.ends.specs.code.RebuilderParts.{repair_how}
 use borrow.Author.Tests.{eq-eqb, ne_eqb}
 use Rattle.ends.proofs.steps.repair_how.Goals as goal
 

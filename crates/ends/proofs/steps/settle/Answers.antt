@@ -1,4 +1,4 @@
-use Rattle.ends.proofs.code.RebuilderCodeLaws.{holds, popped-stages, settled-counts, settled-sound, settled-out}
+use Rattle.ends.specs.code.RebuilderCodeLaws.{holds, popped-stages, settled-counts, settled-sound, settled-out}
 use Rattle.ends.proofs.steps.settle.Goals as goal
 
 pub top-t-requires : goal.top-t-requires

@@ -1,4 +1,4 @@
-use Rattle.ends.proofs.code.RebuilderCodeLaws.{holds, splitting, split-counts, split-sound, split-out, split-start}
+use Rattle.ends.specs.code.RebuilderCodeLaws.{holds, splitting, split-counts, split-sound, split-out, split-start}
 use Rattle.ends.proofs.steps.split.Goals as goal
 
 pub top-t-requires : goal.top-t-requires

@@ -1,5 +1,5 @@
 use Rattle.ends.specs.declared.Stage.TheVariants.{Anchor}
-use Rattle.ends.proofs.code.RebuilderCodeLaws.{early, holds, offsets, search-ready, anchor-start, anchor-text, anchor-written, anchor-part, place-splits, place-small, anchor-placed, anchor-unplaced, waiting-said, split-said, step-said}
+use Rattle.ends.specs.code.RebuilderCodeLaws.{early, holds, offsets, search-ready, anchor-start, anchor-text, anchor-written, anchor-part, place-splits, place-small, anchor-placed, anchor-unplaced, waiting-said, split-said, step-said}
 use Rattle.ends.proofs.steps.take_anchor.Goals as goal
 
 pub top-t-requires : goal.top-t-requires

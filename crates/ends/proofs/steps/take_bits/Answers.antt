@@ -1,5 +1,5 @@
 use native.Mathlib.Omega.{arith}
-use Rattle.ends.proofs.code.RebuilderCallLaws.{bits-whole, bits-acting, bits-opening, due-whole, due-stage, due-said}
+use Rattle.ends.specs.code.RebuilderCallLaws.{bits-whole, bits-acting, bits-opening, due-whole, due-stage, due-said}
 use Rattle.ends.proofs.steps.take_bits.Goals as goal
 
 pub take_whole-requires : goal.take_whole-requires

@@ -1,8 +1,8 @@
 use lib.ListN.{take}
 use Rattle.messages.specs.Answers.{burst_answer}
 use Rattle.ends.specs.declared.Stage.TheVariants.{Columns}
-use Rattle.ends.proofs.code.RebuilderParts.{burst_of}
-use Rattle.ends.proofs.code.RebuilderCodeLaws.{holds, copy-part, text-part, burst-apart, burst-bounds, narrow, early, burst-tried, step-burst, try-yes, try-no}
+use Rattle.ends.specs.code.RebuilderParts.{burst_of}
+use Rattle.ends.specs.code.RebuilderCodeLaws.{holds, copy-part, text-part, burst-apart, burst-bounds, narrow, early, burst-tried, step-burst, try-yes, try-no}
 use Rattle.ends.proofs.steps.take_burst.Reads as reads
 use Rattle.ends.proofs.steps.take_burst.Lts as lts
 use Rattle.codes.proofs.try_run.Reads as try-run-reads

@@ -1,7 +1,7 @@
 use Rattle.ends.specs.declared.Stage.TheVariants.{Hashing}
 use Rattle.ends.specs.declared.How.TheVariants.{ByHash}
 use Rattle.messages.specs.Answers.{hash_answer}
-use Rattle.ends.proofs.code.RebuilderCodeLaws.{holds, same-part, text-part, narrow, early, copy-tried, step-hash, try-yes, try-no}
+use Rattle.ends.specs.code.RebuilderCodeLaws.{holds, same-part, text-part, narrow, early, copy-tried, step-hash, try-yes, try-no}
 use Rattle.ends.proofs.steps.take_hash.Goals as goal
 
 pub top-t-requires : goal.top-t-requires

@@ -1,4 +1,4 @@
-use Rattle.ends.proofs.code.RebuilderCodeLaws.{holds, text-part, piece-part, piece-text, step-said, step-bits, settled-said}
+use Rattle.ends.specs.code.RebuilderCodeLaws.{holds, text-part, piece-part, piece-text, step-said, step-bits, settled-said}
 use Rattle.ends.proofs.steps.take_piece.Goals as goal
 
 pub top-t-requires : goal.top-t-requires

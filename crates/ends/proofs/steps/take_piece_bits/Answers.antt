@@ -1,5 +1,5 @@
 use native.Mathlib.Omega.{arith}
-use Rattle.ends.proofs.code.RebuilderCallLaws.{stage-asks, stage-bits, due-said}
+use Rattle.ends.specs.code.RebuilderCallLaws.{stage-asks, stage-bits, due-said}
 use Rattle.ends.proofs.steps.take_piece_bits.Goals as goal
 
 pub take_anchor-requires : goal.take_anchor-requires

@@ -1,4 +1,4 @@
-use Rattle.ends.proofs.code.RebuilderCallLaws.{opening-ready, opening-next, opening-said}
+use Rattle.ends.specs.code.RebuilderCallLaws.{opening-ready, opening-next, opening-said}
 use Rattle.ends.proofs.steps.take_size.Goals as goal
 
 pub open_state-s-requires : goal.open_state-s-requires

@@ -1,5 +1,5 @@
 use Rattle.messages.specs.Answers.{syndrome_answer}
-use Rattle.ends.proofs.code.RebuilderCodeLaws.{holds, copy-short, copy-part, text-part, apart, narrow, repair-early, repair-tried, repaired-out, step-syndrome, try-yes, try-no}
+use Rattle.ends.specs.code.RebuilderCodeLaws.{holds, copy-short, copy-part, text-part, apart, narrow, repair-early, repair-tried, repaired-out, step-syndrome, try-yes, try-no}
 use Rattle.ends.proofs.steps.take_syndrome.Goals as goal
 
 pub top-t-requires : goal.top-t-requires

@@ -1,4 +1,4 @@
-use Rattle.ends.proofs.code.RebuilderCallLaws.{whole-counts, whole-text, whole-next, whole-said}
+use Rattle.ends.specs.code.RebuilderCallLaws.{whole-counts, whole-text, whole-next, whole-said}
 use Rattle.ends.proofs.steps.take_whole.Goals as goal
 
 pub whole_state-s-requires : goal.whole_state-s-requires
