@@ -49,8 +49,8 @@ returns-in-At c =
     let copy-kept' : (let args = c.args in string_rule args.y.now args.bits ≡ true) = sym c.keeps_string_rule.ensures ∙ c.if-not-keeps_string_rule.false in
     let settings-kept' : (let args = c.args in anchor_settings args.m args.k ≡ true) = sym c.keeps_anchor_settings.ensures ∙ c.if-not-keeps_anchor_settings.false in
     let found = c.in-At in
-    let asked = c.before.before.before in
-    let tested = asked.before in
+    let asked = c in
+    let tested = asked in
     let args = tested.args in
     answers_at args.y.now args.bits args.start args.q args.p args.s args.m args.k args.a.now (settings-kept') (copy-kept') (anchor-kept') (range-kept')
     asked.place_anchor-found.result found.r asked.place_anchor-found.ensures found.is
@@ -62,8 +62,8 @@ returns-in-Nowhere c =
     let anchor-kept' : (let args = c.args in string_rule args.a.now args.m ≡ true) = sym c.keeps_string_rule-2.ensures ∙ c.if-not-keeps_string_rule-2.false in
     let copy-kept' : (let args = c.args in string_rule args.y.now args.bits ≡ true) = sym c.keeps_string_rule.ensures ∙ c.if-not-keeps_string_rule.false in
     let settings-kept' : (let args = c.args in anchor_settings args.m args.k ≡ true) = sym c.keeps_anchor_settings.ensures ∙ c.if-not-keeps_anchor_settings.false in
-    let asked = c.before.before in
-    let tested = asked.before in
+    let asked = c in
+    let tested = asked in
     let args = tested.args in
     answers-nowhere args.y.now args.bits args.start args.q args.p args.s args.m args.k args.a.now (settings-kept') (copy-kept') (anchor-kept') (range-kept')
     asked.place_anchor-found.result asked.place_anchor-found.ensures c.in-Nowhere.is

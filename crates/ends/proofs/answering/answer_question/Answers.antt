@@ -11,7 +11,7 @@ pub answer_bits-requires : goal.answer_bits-requires
 answer_bits-requires c = able-answers _ _ _ c.requires.able (ready-within _ _ _ c.requires c.in-AskBits.is)
 
 pub answer_burst-requires : goal.answer_burst-requires
-answer_burst-requires c = let s = c.before.before.before.before.before.before in
+answer_burst-requires c = let s = c in
     let w = ready-within _ _ _ s.requires c.in-AskBurst.is in record { answers = able-answers _ _ _ s.requires.able w.range; le_b = (w.b-least, w.b-most) }
 
 pub returns-in-AskOpen : goal.returns-in-AskOpen

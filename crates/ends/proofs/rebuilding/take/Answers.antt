@@ -9,20 +9,10 @@ use Rattle.ends.specs.code.RebuilderParts.{enough_for_answer, heard_step}
 use Rattle.ends.specs.code.RebuilderCallLaws.{heard-size, heard-hash, heard-syndrome, heard-burst, heard-bits, cols-few, burst-answered, burst-said, bits_inside, bits-long, bits-said, read-said, enough-for, enough-is, enough-bits, acting-small, whole-small, refused-said}
 use Rattle.ends.proofs.rebuilding.take.Goals as goal
 
--- the answer that was read has capacity
-enough-left : (s : goal.Start) {b : AnswerRead} → let a = s.args in
-    a.read ≡ b → enough_for_answer a.st (capacities (length a.string.now) s.requires.by_index.0 (length a.question.now)) b ≡ true
-enough-left s e = enough-for s.args.st _ _ _ _ s.requires.due _ s.requires.by_index.1 e
-
--- and what is done with it is what the call leaves
-said : (s : goal.Start) {b : AnswerRead} {x : RebuilderSaid} → let a = s.args in let after : AnswerRead → RebuilderSaid = λ z. leaves_rebuilder a.st a.string.now a.question.now (heard_step a.st a.y.now a.msg.now a.len a.b z) in
-    a.read ≡ b → x ≡ after b → x ≡ after a.read
-said s e f = read-said s.args.st _ _ _ _ s.requires.due e _ _ _ f
-
 pub take_size-requires : goal.take_size-requires
 take_size-requires c = let s = c in
     let e = c.in-IsSize.is in
-    let r = enough-is s.args.st _ _ (enough-left s e) in record { opening = heard-size s.args.st _ _ _ _ s.requires.due _ e _ r.1; n_in_bounds = r.0 }
+    let r = enough-is s.args.st _ _ (enough-for c.args.st _ _ _ _ c.requires.due _ c.requires.by_index.1 e) in record { opening = heard-size s.args.st _ _ _ _ s.requires.due _ e _ r.1; n_in_bounds = r.0 }
 
 pub overflow_cast-msg : goal.overflow_cast-msg
 overflow_cast-msg c = let s = c in
@@ -32,7 +22,7 @@ overflow_cast-msg c = let s = c in
 pub take_hash-requires : goal.take_hash-requires
 take_hash-requires c = let s = c in
     let e = c.in-IsHash.is in
-    let r = enough-is s.args.st _ _ (enough-left s e) in
+    let r = enough-is s.args.st _ _ (enough-for c.args.st _ _ _ _ c.requires.due _ c.requires.by_index.1 e) in
     let h = heard-hash s.args.st _ _ _ _ s.requires.due _ e _ r.1 in record { acting = h.0; lending = record { copy = s.requires.ybits_bound; text = enough-bits _ _ r.0 }; stage_value = h.1 }
 
 pub overflow_cast-msg-in-IsSyndrome : goal.overflow_cast-msg-in-IsSyndrome
@@ -43,7 +33,7 @@ overflow_cast-msg-in-IsSyndrome c = let s = c in
 pub take_syndrome-requires : goal.take_syndrome-requires
 take_syndrome-requires c = let s = c in
     let e = c.in-IsSyndrome.is in
-    let r = enough-is s.args.st _ _ (enough-left s e) in
+    let r = enough-is s.args.st _ _ (enough-for c.args.st _ _ _ _ c.requires.due _ c.requires.by_index.1 e) in
     let h = heard-syndrome s.args.st _ _ _ _ s.requires.due _ _ e _ r.1 in record { acting = h.0; lending = record { copy = s.requires.ybits_bound; text = enough-bits _ _ r.0 }; repair_due = h.1 }
 
 pub slice_bounds-take_bits-count : goal.slice_bounds-take_bits-count
@@ -64,7 +54,7 @@ overflow_cast-msg-in-IsBits c = let s = c in
 pub take_bits-requires : goal.take_bits-requires
 take_bits-requires c = let s = c in
     let e = c.in-IsBits.is in
-    let r = enough-is s.args.st _ _ (enough-left s e) in record { bits_due = (heard-bits s.args.st _ _ _ _ s.requires.due _ e _ r.1).0; lending = record { copy = s.requires.ybits_bound; text = enough-bits _ _ r.0 }; st_bound = bits-long s.args.st _ _ _ _ s.requires.due _ e }
+    let r = enough-is s.args.st _ _ (enough-for c.args.st _ _ _ _ c.requires.due _ c.requires.by_index.1 e) in record { bits_due = (heard-bits s.args.st _ _ _ _ s.requires.due _ e _ r.1).0; lending = record { copy = s.requires.ybits_bound; text = enough-bits _ _ r.0 }; st_bound = bits-long s.args.st _ _ _ _ s.requires.due _ e }
 
 pub burst_syndromes-requires : goal.burst_syndromes-requires
 burst_syndromes-requires c = let s = c in record { b_bound = cols-few s.args.st _ _ _ _ s.requires.due; burst_answered = burst-answered s.args.st _ _ _ _ s.requires.due _ c.in-IsBurst.is }
@@ -77,21 +67,21 @@ overflow_cast-msg-in-IsBurst c = let s = c in
 pub take_burst-requires : goal.take_burst-requires
 take_burst-requires c = let s = c in
     let e = c.in-IsBurst.is in
-    let r = enough-is s.args.st _ _ (enough-left s e) in
+    let r = enough-is s.args.st _ _ (enough-for c.args.st _ _ _ _ c.requires.due _ c.requires.by_index.1 e) in
     let h = heard-burst s.args.st _ _ _ _ s.requires.due _ e _ r.1 in record { acting = h.0; lending = record { copy = s.requires.ybits_bound; text = enough-bits _ _ r.0 }; burst_due = h.1 }
 
 pub returns-in-NoAnswer : goal.returns-in-NoAnswer
 returns-in-NoAnswer c = let s = c in
-    said s c.in-NoAnswer.is (refused-said s.args.st _ _ _ c.refuse.ensures refl)
+    read-said c.args.st _ _ _ _ c.requires.due c.in-NoAnswer.is _ _ _ (refused-said s.args.st _ _ _ c.refuse.ensures refl)
 
 pub returns-in-IsSize : goal.returns-in-IsSize
-returns-in-IsSize c = said (c) c.in-IsSize.is (c.take_size.ensures _ _)
+returns-in-IsSize c = read-said c.args.st _ _ _ _ c.requires.due c.in-IsSize.is _ _ _ (c.take_size.ensures _ _)
 
 pub returns-in-IsHash : goal.returns-in-IsHash
-returns-in-IsHash c = said (c) c.in-IsHash.is c.take_hash.ensures
+returns-in-IsHash c = read-said c.args.st _ _ _ _ c.requires.due c.in-IsHash.is _ _ _ c.take_hash.ensures
 
 pub returns-in-IsSyndrome : goal.returns-in-IsSyndrome
-returns-in-IsSyndrome c = said (c) c.in-IsSyndrome.is c.take_syndrome.ensures
+returns-in-IsSyndrome c = read-said c.args.st _ _ _ _ c.requires.due c.in-IsSyndrome.is _ _ _ c.take_syndrome.ensures
 
 pub returns-in-IsBits : goal.returns-in-IsBits
 returns-in-IsBits c = let s = c in

@@ -8,8 +8,7 @@ anchor_offset-requires c = let k = c.requires in record { m-most = k.m-most; lon
 
 pub overflow_add-result : goal.overflow_add-result
 overflow_add-result c = let k = c.requires in
-    let s = c.stage-1.given in
-    let o = offset-below c.args.s.m c.args.t.p s.0.0 (k.long _ s.1) in
+    let o = offset-below c.args.s.m c.args.t.p c.in-Anchor.i (k.long _ c.in-Anchor.is) in
     let g = c.anchor_offset.ensures in
     let x = k.x-most in
     omega arith

@@ -17,17 +17,17 @@ answer-of : (r : RebuilderOut) (s : Rebuilder) (q q' : List ℕ) → OutIs r s N
 answer-of r s q q' o = (ap (λ (x : RebuilderOut). x.answer) o.out, o.question)
 
 pub returns-in-Finished : goal.returns-in-Finished
-returns-in-Finished c = let s = c.before.before.before in
+returns-in-Finished c = let s = c in
     λ st e pl. answer-of _ st _ _ (finished-out st NoRow _ e s.requires pl c.in-Finished.is _ refl)
 
 pub returns-in-TooShort : goal.returns-in-TooShort
-returns-in-TooShort c = let at-write-question = c.before.before.before.before in
-    let at-plan = at-write-question.before.before.before in
-    let s = at-plan.before.before.before in
+returns-in-TooShort c = let at-write-question = c in
+    let at-plan = at-write-question in
+    let s = at-plan in
     λ st e pl. absurd (short-out st NoRow _ e s.requires pl at-plan.in-Ask.is _ _ at-write-question.write_question.ensures c.in-TooShort.is)
 
 pub returns-in-Written : goal.returns-in-Written
-returns-in-Written c = let at-write-question = c.before.before.before.before.before in
-    let at-plan = at-write-question.before.before.before in
-    let s = at-plan.before.before.before in
+returns-in-Written c = let at-write-question = c in
+    let at-plan = at-write-question in
+    let s = at-plan in
     λ st e pl. answer-of _ st _ _ (asked-out st NoRow _ e s.requires pl at-plan.in-Ask.is _ _ at-write-question.write_question.ensures c.in-Written.is _ refl)
