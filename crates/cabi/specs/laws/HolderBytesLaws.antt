@@ -1,5 +1,5 @@
 -- Laws of a fresh holder and of the holder's call on bytes: its returns, and that the bytes carry the state from call to call.
-use Rattle.std.specs.Prelude.{◌≡◌, Bool, true, false, List, ◌++◌, ℕ, ◌+◌, ◌*◌, ◌≤◌, ◌<◌}
+use Rattle.std.specs.Prelude.{◌≡◌, Bool, true, false, List, ◌++◌, ℕ, ◌*◌, ◌≤◌, ◌<◌}
 use Rattle.std.proofs.Math.Path.{refl, ap}
 use Rattle.std.proofs.Common.{sym, ◌∙◌, arith, length-append, length-take, length-drop, le-leb}
 use Rattle.std.proofs.Math.ListN.{length, drop}
