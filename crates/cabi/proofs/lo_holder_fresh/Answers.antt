@@ -2,7 +2,8 @@ use mathlib.Core.Path.{ap, ◌∙◌}
 use mathlib.Core.List.{◌++◌}
 use lib.ListN.{drop}
 use Rattle.layout.specs.Layout.{holder_size, holder_bytes}
-use Rattle.cabi.specs.laws.HolderBytesLaws.{fresh-short, fresh-whole}
+use Rattle.cabi.specs.laws.HolderBytesLaws.{fresh-whole}
+use Rattle.cabi.proofs.laws.FreshHolder.{fresh-short}
 use Rattle.cabi.proofs.lo_holder_fresh.Goals as goal
 
 pub returns-then-capacity-lt-HOLDER_BYTES : goal.returns-then-capacity-lt-HOLDER_BYTES
