@@ -206,6 +206,7 @@ fn keep(state: &mut [u8], sheet: &mut [u8], st: Rebuilder, change: SheetChange, 
 }
 
 // The rebuilder's call: the next question's length, 0 at the finish.
+#[tactic(auto, using(crate::proofs::CallRules::call_refusals))]
 #[unsafe(no_mangle)]
 pub extern "C" fn lo_rebuilder_call(
     state: &mut [u8],

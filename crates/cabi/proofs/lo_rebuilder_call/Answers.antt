@@ -4,26 +4,21 @@ use Rattle.strings.specs.StringRule.{string_rule}
 use Rattle.ends.specs.RebuilderOutcome.{call_said}
 use Rattle.layout.specs.Layout.{is_rebuilder}
 use Rattle.layout.specs.laws.LayoutLaws.{rebuilder-long}
-use Rattle.cabi.specs.laws.RebuilderBytesLaws.{call-bad-string, call-no-state, RebuilderCalled, call_rows, call-small, call-declined, call-taken}
+use Rattle.cabi.specs.laws.RebuilderBytesLaws.{call-bad-string, RebuilderCalled, call_rows, call-small, call-declined, call-taken}
 use borrow.Author.Rules.{rules}
 use Rattle.cabi.proofs.lo_rebuilder_call.Goals as goal
 
 pub returns-then-not-keeps_string_rule : goal.returns-then-not-keeps_string_rule
 returns-then-not-keeps_string_rule c = call-bad-string _ _ _ _ _ _ _ c.pack_refusal.ensures (sym c.keeps_string_rule.ensures ∙ c.if-not-keeps_string_rule.true)
 
-pub returns-then-not-holds_rebuilder : goal.returns-then-not-holds_rebuilder
-returns-then-not-holds_rebuilder c =
-    let string-kept' : (let args = c.args in string_rule args.y.now args.bits ≡ true) = sym c.keeps_string_rule.ensures ∙ c.if-not-keeps_string_rule.false in
-    call-no-state _ _ _ _ _ _ _ c.pack_refusal-then-not-holds_rebuilder.ensures (string-kept') (sym c.holds_rebuilder.ensures ∙ c.if-not-holds_rebuilder.true)
-
 pub read_rebuilder-st-requires : goal.read_rebuilder-st-requires
 read_rebuilder-st-requires c =
-    let state-held' : (is_rebuilder c.args.state.now ≡ true) = sym c.holds_rebuilder.ensures ∙ c.if-not-holds_rebuilder.false in
+    let state-held' : (is_rebuilder c.args.state.now ≡ true) = search rules in
     rebuilder-long _ (state-held')
 
 pub keep-requires : goal.keep-requires
 keep-requires c =
-    let state-held' : (is_rebuilder c.args.state.now ≡ true) = sym c.holds_rebuilder.ensures ∙ c.if-not-holds_rebuilder.false in
+    let state-held' : (is_rebuilder c.args.state.now ≡ true) = search rules in
     let string-kept' : (let args = c.args in string_rule args.y.now args.bits ≡ true) = sym c.keeps_string_rule.ensures ∙ c.if-not-keeps_string_rule.false in
     let called' : (RebuilderCalled) = let read = c.before.before.before in
     let if2 = read.before.before in
@@ -49,7 +44,7 @@ keep-requires c =
 
 pub keep-requires-in-Asks : goal.keep-requires-in-Asks
 keep-requires-in-Asks c =
-    let state-held' : (is_rebuilder c.args.state.now ≡ true) = sym c.holds_rebuilder.ensures ∙ c.if-not-holds_rebuilder.false in
+    let state-held' : (is_rebuilder c.args.state.now ≡ true) = search rules in
     let string-kept' : (let args = c.args in string_rule args.y.now args.bits ≡ true) = sym c.keeps_string_rule.ensures ∙ c.if-not-keeps_string_rule.false in
     let called' : (RebuilderCalled) = let read = c.before.before.before in
     let if2 = read.before.before in
@@ -75,7 +70,7 @@ keep-requires-in-Asks c =
 
 pub returns-in-Refused : goal.returns-in-Refused
 returns-in-Refused c =
-    let state-held' : (is_rebuilder c.args.state.now ≡ true) = sym c.holds_rebuilder.ensures ∙ c.if-not-holds_rebuilder.false in
+    let state-held' : (is_rebuilder c.args.state.now ≡ true) = search rules in
     let string-kept' : (let args = c.args in string_rule args.y.now args.bits ≡ true) = sym c.keeps_string_rule.ensures ∙ c.if-not-keeps_string_rule.false in
     let called' : (RebuilderCalled) = let read = c.before.before.before in
     let if2 = read.before.before in
@@ -101,7 +96,7 @@ returns-in-Refused c =
 
 pub returns-in-Finished : goal.returns-in-Finished
 returns-in-Finished c =
-    let state-held' : (is_rebuilder c.args.state.now ≡ true) = sym c.holds_rebuilder.ensures ∙ c.if-not-holds_rebuilder.false in
+    let state-held' : (is_rebuilder c.args.state.now ≡ true) = search rules in
     let string-kept' : (let args = c.args in string_rule args.y.now args.bits ≡ true) = sym c.keeps_string_rule.ensures ∙ c.if-not-keeps_string_rule.false in
     let called' : (RebuilderCalled) = let read = c.before.before.before in
     let if2 = read.before.before in
@@ -128,7 +123,7 @@ returns-in-Finished c =
 
 pub returns-in-Asks : goal.returns-in-Asks
 returns-in-Asks c =
-    let state-held' : (is_rebuilder c.args.state.now ≡ true) = sym c.holds_rebuilder.ensures ∙ c.if-not-holds_rebuilder.false in
+    let state-held' : (is_rebuilder c.args.state.now ≡ true) = search rules in
     let string-kept' : (let args = c.args in string_rule args.y.now args.bits ≡ true) = sym c.keeps_string_rule.ensures ∙ c.if-not-keeps_string_rule.false in
     let called' : (RebuilderCalled) = let read = c.before.before.before in
     let if2 = read.before.before in
