@@ -1,4 +1,4 @@
-//! Finds libcabi.a: in the folder that LO_LIB_DIR names, else in ../target/staticlib.
+//! Finds libcabi.a: in the folder that LO_LIB_DIR names, else in ../crates/cabi/out.
 
 use std::env;
 use std::path::PathBuf;
@@ -13,7 +13,7 @@ fn main() {
     let folder = match env::var_os("LO_LIB_DIR") {
         Some(folder) => PathBuf::from(folder),
         None => PathBuf::from(env::var_os("CARGO_MANIFEST_DIR").expect("cargo sets this"))
-            .join("../target/staticlib"),
+            .join("../crates/cabi/out"),
     };
     let archive = folder.join("libcabi.a");
     println!("cargo:rerun-if-changed={}", archive.display());
@@ -34,7 +34,7 @@ fn main() {
 
 fn missing(archive: PathBuf) -> ! {
     eprintln!("error: {} is missing.", archive.display());
-    eprintln!("Run `rt staticlib cabi` in the repository's root first,");
+    eprintln!("Run `rt lib` in crates/cabi first,");
     eprintln!("or set LO_LIB_DIR to the folder that holds libcabi.a.");
     eprintln!("(`--features model-only` builds without it, for work on the model alone.)");
     exit(1)

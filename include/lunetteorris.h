@@ -1,8 +1,8 @@
 /* Lunetteorris: synchronising a copy of a bit string with its reference.
  *
  * A holder has the reference X of n bits, a rebuilder the copy Y. The rebuilder asks questions,
- * the holder answers, the host carries the messages. Link target/staticlib/libcabi.a, made by
- * `rt staticlib cabi`.
+ * the holder answers, the host carries the messages. Link crates/cabi/out/libcabi.a, made by
+ * `rt lib` in crates/cabi.
  *
  * Strings. Each has 0 to LO_MAX_BITS bits in exactly ceil(bits/8) bytes, first bit in the most
  * significant place, spare bits zero.

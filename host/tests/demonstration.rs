@@ -11,15 +11,15 @@ fn root() -> PathBuf {
     Path::new(env!("CARGO_MANIFEST_DIR")).join("..")
 }
 
-/// The program: LO_DEMO, else target/bin/demo in the repository.
+/// The program: LO_DEMO, else crates/demo/out/demo in the repository.
 fn program() -> PathBuf {
     let program = match env::var_os("LO_DEMO") {
         Some(path) => PathBuf::from(path),
-        None => root().join("target/bin/demo"),
+        None => root().join("crates/demo/out/demo"),
     };
     assert!(
         program.is_file(),
-        "{} is missing: run `rt check demo` in the repository's root first",
+        "{} is missing: run `rt run` in crates/demo first",
         program.display()
     );
     program

@@ -10,7 +10,7 @@ use Rattle.ends.specs.Worlds.{Call, EachBy, Lent, World, WorldOf, after_by, step
 use Rattle.layout.specs.Layout.{holder_of, holder_size, rebuilder_of, rebuilder_size}
 use Rattle.layout.specs.Sheet.{rows_in}
 use Rattle.cabi.specs.Packing.{value_unit}
-use Rattle.cabi.specs.Calls.{HolderLeft, HolderMade, RebuilderLeft, StartLeft, holder_bytes_outcome, holder_made, rebuilder_bytes_outcome, start_bytes_outcome}
+use Rattle.cabi.specs.Calls.{HolderLeft, RebuilderLeft, StartLeft, holder_bytes_outcome, holder_made, rebuilder_bytes_outcome, start_bytes_outcome}
 
 -- what a host lends: settings; X, Y and their bit counts; string and sheet; the start's question buffer; the bytes for both states
 pub record ByteLent : Type 0 where

@@ -112,7 +112,7 @@ pub extern "C" fn lo_anchor(
 // The state of a holder that has answered nothing.
 #[unsafe(no_mangle)]
 pub extern "C" fn lo_holder_fresh(state: &mut [u8]) -> u64
-    ensures* { λ r. ⌜ record { result = r; state = state.new } ≡ holder_made state.old ⌝ }
+    ensures { record { result = result; state = state.new } ≡ holder_made state.old }
 {
     let capacity = state.len();
     if capacity < HOLDER_BYTES {
@@ -132,8 +132,8 @@ pub extern "C" fn lo_holder_answer(
     msg: &[u8],
     reply: &mut [u8],
 ) -> u64
-    ensures* { λ r. ⌜ record { result = r; state = state.new; reply = reply.new }
-        ≡ holder_bytes_outcome state.old x.now bits msg.now reply.old ⌝ }
+    ensures { record { result = result; state = state.new; reply = reply.new }
+        ≡ holder_bytes_outcome state.old x.now bits msg.now reply.old }
 {
     if !strings::keeps_string_rule(x, bits) {
         return packing::pack_refusal(Refusal::BadString);
@@ -166,8 +166,8 @@ pub extern "C" fn lo_rebuilder_start(
     state: &mut [u8],
     question: &mut [u8],
 ) -> u64
-    ensures* { λ r. ⌜ record { result = r; state = state.new; question = question.new }
-        ≡ start_bytes_outcome (record { m = m; h = h; k = k; key = key; ceiling = ceiling }) y.now bits state.old question.old ⌝ }
+    ensures { record { result = result; state = state.new; question = question.new }
+        ≡ start_bytes_outcome (record { m = m; h = h; k = k; key = key; ceiling = ceiling }) y.now bits state.old question.old }
 {
     let s = Settings::new(m, h, k, key, ceiling);
     if !s.is_within_limits() {
@@ -206,6 +206,7 @@ fn keep(state: &mut [u8], sheet: &mut [u8], st: Rebuilder, change: SheetChange, 
 }
 
 // The rebuilder's call: the next question's length, 0 at the finish.
+#[tactic(auto, using(crate::proofs::CallRules::call_refusals))]
 #[unsafe(no_mangle)]
 pub extern "C" fn lo_rebuilder_call(
     state: &mut [u8],
@@ -216,14 +217,14 @@ pub extern "C" fn lo_rebuilder_call(
     msg: &[u8],
     question: &mut [u8],
 ) -> u64
-    ensures* { λ r. ⌜ record {
-      result = r;
+    ensures { record {
+      result = result;
       state = state.new;
       string = string.new;
       sheet = sheet.new;
       question = question.new;
     }
-        ≡ rebuilder_bytes_outcome state.old y.now bits msg.now string.old sheet.old question.old ⌝ }
+        ≡ rebuilder_bytes_outcome state.old y.now bits msg.now string.old sheet.old question.old }
 {
     if !strings::keeps_string_rule(y, bits) {
         return packing::pack_refusal(Refusal::BadString);

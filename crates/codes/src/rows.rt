@@ -1,12 +1,12 @@
 // The xorshift rows and the hash of a range. Rows are stepped from bit to bit; none is stored.
 ghost use Rattle.std.specs.Prelude.{◌≡◌, [], ◌∷◌, ◌*◌, ◌%◌, ◌^◌, ◌≤◌};
 ghost use Rattle.strings.specs.Bits.{range, Part, byte_bits};
-ghost use Rattle.codes.specs.Hash.{xorshift as xorshiftOf, hash};
+ghost use Rattle.codes.specs.Hash.{xorshift as xorshift_of, hash};
 ghost use Rattle.codes.specs.code.HashForms.{Went};
 
 // One step.
 pub fn xorshift(v: u32) -> u32
-    ensures { result ≡ xorshiftOf v }
+    ensures { result ≡ xorshift_of v }
 {
     let a = v ^ (v << 13);
     let b = a ^ (a >> 17);

@@ -35,6 +35,7 @@ pub fn try_copy(
 }
 
 // The edited range.
+#[tactic(auto, unfolding(crate::specs::Trials::agreeing))]
 fn try_edit(
     s: &[u8],
     start: usize,

@@ -1,4 +1,4 @@
--- Laws that rest on definitions which must-fail edits change, and what the proofs share.
+-- Laws, examples and the theorem that rest on definitions which must-fail edits change.
 pub mod laws
 pub mod code
 pub mod examples

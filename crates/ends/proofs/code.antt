@@ -1,3 +1,3 @@
--- What internal functions give and require, the terms of their contracts; and laws for the proofs of functions.
+-- Laws for the proofs of functions that rest on a definition which a must-fail edit changes; the others are in specs/code.
 pub mod HolderCodeLaws
 pub mod SheetCallLaws

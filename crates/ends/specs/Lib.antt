@@ -1,5 +1,6 @@
--- What a reader must believe of the two ends, and demand 3's theorem. From Anchors to RebuilderCall: pieces, states and calls; the outcomes,
--- SheetCall and AnchorSearch: what the exported functions give and leave; Worlds, Statement, Theorem: lists of calls.
+-- What a reader must believe of the two ends. From Anchors to RebuilderCall: pieces, states and calls; the outcomes,
+-- SheetCall and AnchorSearch: what the exported functions give and leave; Worlds, Statement: lists of calls and demand 3, whose theorem
+-- is in proofs/Theorem.
 pub mod Anchors
 pub mod Segments
 pub mod Runs

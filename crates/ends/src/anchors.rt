@@ -2,7 +2,7 @@
 // for the rebuilder, whose sound state keeps what it requires.
 ghost use Rattle.std.specs.Prelude.{◌≡◌, ◌+◌, ◌-◌, ◌≤◌, min, leb};
 ghost use Rattle.strings.specs.Bits.{range, max_bits};
-ghost use Rattle.ends.specs.Anchors.{isqrt as isqrtOf, distance as distance_of, place};
+ghost use Rattle.ends.specs.Anchors.{isqrt as isqrt_of, distance as distance_of, place};
 ghost use Rattle.ends.specs.AnchorSearch.{place_in, anchor_settings, anchor_range, said_anchor, anchor_search};
 ghost use Rattle.ends.specs.code.Window.{Searching, Small, window_start, window_end};
 
@@ -26,7 +26,7 @@ pub enum AnchorAnswer {
 // The largest number whose square is at most q.
 fn isqrt(q: usize) -> usize
     requires { q ≤ max_bits }
-    ensures { result ≡ isqrtOf q }
+    ensures { result ≡ isqrt_of q }
 {
     let mut r: usize = 0;
     while (r + 1) * (r + 1) <= q {

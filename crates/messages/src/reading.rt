@@ -1,7 +1,7 @@
 // The reader of 01, "Both ends read through one reader that holds a message and how far it has got". It only holds the two; the work
 // is done by `read_number`, on a slice and a position. Questions and answers are read through `next_number`, `two_numbers` and
 // `three_numbers`, each of which reads through one reader; the last two move it on from number to number, in `three_readings`. Their
-// parameters are plain, so that the functions above need no proof by hand.
+// parameters are plain, so that the functions above need not know of the reader.
 ghost use Rattle.std.specs.Prelude.{◌≡◌, ◌≤◌};
 ghost use Rattle.messages.specs.Numbers.{number_at, said_number, two_at, said_two, three_at, said_three, numbers_at};
 ghost use Rattle.messages.specs.code.Reading.{behind_number, two_of, three_of, OneBehindTheOther, said_many};

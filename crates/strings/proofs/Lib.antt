@@ -1,2 +1,2 @@
--- Laws that rest on definitions which must-fail edits change, and what the proofs share.
+-- Laws that rest on a definition which a must-fail edit changes.
 pub mod laws

@@ -1,4 +1,4 @@
--- Laws of the definitions, for proofs.
+-- Laws that rest on a definition which a must-fail edit changes; the others are in specs/laws.
 pub mod BitLaws
 pub mod RangeLaws
 pub mod WriteLaws

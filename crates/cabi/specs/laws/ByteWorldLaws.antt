@@ -1,27 +1,27 @@
 -- Demand 3 on bytes: each lo_ call is ends' call on the states that the bytes hold.
-use Rattle.std.specs.Prelude.{◌≡◌, refl, Bool, true, false, List, [], ◌∷◌, ◌++◌, ℕ, ◌+◌, ◌*◌, ◌/◌, ◌%◌, ◌≤◌, ◌<◌, max, length, drop, take, eqb}
-use Rattle.std.proofs.Common.{sym, ap, ap₂, ◌∙◌, subst, arith, ne_eqb}
+use Rattle.std.specs.Prelude.{◌≡◌, refl, true, List, [], ◌∷◌, ◌++◌, ℕ, ◌*◌, ◌%◌, length, drop}
+use Rattle.std.proofs.Common.{sym, ap, ◌∙◌, subst, arith, ne_eqb}
 use Rattle.std.proofs.Math.Option.{Option, none, some}
 use Rattle.std.proofs.Math.Seq.{take-append_seam}
 use Rattle.strings.specs.Bits.{at_front, Bytes}
 use Rattle.strings.specs.Refusals.{refusal_number}
 use Rattle.strings.specs.Results.{Result, refusal, value, mapped}
 use Rattle.strings.specs.declared.Refusal.{Refusal}
-use Rattle.strings.specs.laws.ResultLaws.{Numbered, no_value, refusal-small, value-is}
+use Rattle.strings.specs.laws.ResultLaws.{refusal-small}
 use Rattle.ends.specs.HolderCall.{Reply, holder_call}
 use Rattle.ends.specs.HolderOutcome.{leaves_holder}
-use Rattle.ends.specs.RebuilderCall.{Capacities, Taken, change_row, rebuilder_call, sheet_after, takes}
+use Rattle.ends.specs.RebuilderCall.{Capacities, Taken, change_row, rebuilder_call}
 use Rattle.ends.specs.RebuilderOutcome.{capacities, next_size}
 use Rattle.ends.specs.SheetCall.{leaves_on_sheet}
 use Rattle.ends.specs.Statement.{FairCall, HoldersAnswer, LongEnough, OnceEach, RebuilderClaims, Supposed, WasTaken, fixed}
-use Rattle.ends.specs.Worlds.{Call, Lent, World, after_holder, after_rebuilder, joined, last_written, step_world, to_holder, to_rebuilder}
+use Rattle.ends.specs.Worlds.{Lent, World, after_holder, after_rebuilder, step_world, to_holder, to_rebuilder}
 use Rattle.ends.specs.declared.Row.{Row}
 use Rattle.ends.proofs.laws.Claimed.{Known, holder-claims, holder_known, rebuilder-claims, rebuilder-known}
 use Rattle.ends.specs.laws.RefusedLaws.{call-numbered, holder-numbered}
 use Rattle.ends.specs.laws.RunLaws.{written-waits}
 use Rattle.ends.specs.laws.SheetLength.{SmallRow, taken-row, taken-rows}
 use Rattle.layout.specs.Layout.{holder_bytes, holder_of, is_holder, is_rebuilder, rebuilder_bytes, rebuilder_of}
-use Rattle.layout.specs.Sheet.{row_size, rows_in, sheet_bytes_after}
+use Rattle.layout.specs.Sheet.{rows_in}
 use Rattle.layout.specs.laws.LayoutLaws.{HolderFits}
 use Rattle.layout.specs.laws.SheetLaws.{RowFits, rows-in-length, same_rows}
 use Rattle.cabi.specs.ByteWorlds.{ByteLent, ByteWorld, FairOnBytes, HolderDid, RebuilderDid, SupposedOnBytes, after_holder_did, after_rebuilder_did, holder_does, joined_by, lent_of, rebuilder_does, step_bytes, world_of, written_by}

@@ -1,9 +1,8 @@
 -- Laws of a fresh holder and of the holder's call on bytes: its returns, and that the bytes carry the state from call to call.
-use Rattle.std.specs.Prelude.{◌≡◌, Bool, true, false, List, ◌++◌, ℕ, ◌+◌, ◌*◌, ◌≤◌, ◌<◌}
+use Rattle.std.specs.Prelude.{◌≡◌, Bool, true, false, List, ◌++◌, ℕ, ◌*◌, ◌≤◌, ◌<◌}
 use Rattle.std.proofs.Math.Path.{refl, ap}
 use Rattle.std.proofs.Common.{sym, ◌∙◌, arith, length-append, length-take, length-drop, le-leb}
 use Rattle.std.proofs.Math.ListN.{length, drop}
-use Rattle.std.proofs.lemmas.Bool.{lt-leb}
 use Rattle.strings.specs.Bits.{range, at_front, max_bits}
 use Rattle.strings.specs.Bits.{Bytes}
 use Rattle.strings.proofs.laws.RangeLaws.{range_length}
@@ -12,7 +11,7 @@ use Rattle.strings.specs.Refusals.{refusal_number}
 use Rattle.strings.specs.Results.{Result, refusal, value}
 use Rattle.strings.specs.laws.ResultLaws.{no_value, value-is, unless-passed}
 use Rattle.strings.specs.declared.Refusal.{Refusal}
-use Rattle.strings.specs.declared.Refusal.TheVariants.{BadString, OutOfTurn, BufferTooShort}
+use Rattle.strings.specs.declared.Refusal.TheVariants.{BadString, OutOfTurn}
 use Rattle.codes.specs.Syndrome.{syndrome}
 use Rattle.codes.specs.Columns.{syndromes}
 use Rattle.codes.specs.laws.ColumnLaws.{syndromes-length}
@@ -39,10 +38,6 @@ use Rattle.cabi.specs.Packing.{packed, value_unit}
 use Rattle.cabi.specs.Calls.{holder_made, holder_on_bytes, HolderLeft, holder_left, holder_bytes_outcome}
 
 -- ---- a fresh holder
-pub fresh-short : (s : List ℕ) {r : ℕ} → r ≡ packed (refusal (refusal_number BufferTooShort)) → length s < holder_size → record { result = r; state = s } ≡ holder_made s
-unfolding holder_made packed
-fresh-short s p h = rw (p, lt-leb holder_size (length s) h) refl
-
 pub fresh-whole : (s t : List ℕ) → holder_size ≤ length s → t ≡ holder_bytes fresh_holder ++ drop holder_size s → record { result = 0; state = t } ≡ holder_made s
 unfolding holder_made packed
 fresh-whole s t h e =

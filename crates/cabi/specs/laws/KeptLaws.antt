@@ -11,7 +11,7 @@ use Rattle.strings.specs.declared.settings.Settings.{Settings}
 use Rattle.strings.specs.SettingLimits.{within_limits}
 use Rattle.ends.specs.HolderCall.{Reply, fresh_holder}
 use Rattle.ends.specs.RebuilderCall.{Started, Taken, Capacities}
-use Rattle.layout.specs.Layout.{holder_size, holder_bytes, holder_of, is_holder, rebuilder_size, rebuilder_bytes, rebuilder_of, is_rebuilder}
+use Rattle.layout.specs.Layout.{holder_size, holder_bytes, is_holder, rebuilder_size, rebuilder_bytes, is_rebuilder}
 use Rattle.layout.specs.laws.LayoutLaws.{length-holder, length-rebuilder, holder-long, rebuilder-long}
 use Rattle.cabi.specs.Calls.{holder_made, holder_on_bytes, holder_left, start_on_bytes, start_left, rebuilder_on_bytes, capacities_in, rebuilder_left}
 

@@ -1,7 +1,7 @@
 -- Demand 3 on bytes: the start, and every list of calls.
-use Rattle.std.specs.Prelude.{◌≡◌, true, List, [], ◌∷◌, ◌++◌, ℕ, ◌+◌, ◌*◌, ◌≤◌, ◌<◌, length, drop, leb}
+use Rattle.std.specs.Prelude.{◌≡◌, List, [], ◌∷◌, ℕ, length, drop}
 use Rattle.std.proofs.Math.Path.{refl}
-use Rattle.std.proofs.Common.{sym, ap, ap₂, ◌∙◌, subst, arith}
+use Rattle.std.proofs.Common.{sym, ap, ◌∙◌, subst, arith}
 use borrow.Author.Tests.{le-leb}
 use Rattle.strings.specs.Bits.{at_front}
 use Rattle.strings.specs.Results.{Result}
@@ -10,8 +10,8 @@ use Rattle.messages.specs.declared.Question.TheVariants.{AskOpen}
 use Rattle.ends.specs.HolderCall.{fresh_holder}
 use Rattle.ends.specs.RebuilderCall.{Started, fresh_rebuilder, rebuilder_start, starts}
 use Rattle.ends.specs.RebuilderOutcome.{leaves_start}
-use Rattle.ends.specs.Statement.{AfterClaims, Supposed}
-use Rattle.ends.specs.Worlds.{Call, Lent, World, first_world, first_written, to_holder, to_rebuilder}
+use Rattle.ends.specs.Statement.{Supposed}
+use Rattle.ends.specs.Worlds.{Call, Lent, first_world, to_holder, to_rebuilder}
 use Rattle.ends.proofs.laws.Claimed.{Known, after-claims, first-known}
 use Rattle.ends.specs.laws.Delivery.{starts-so}
 use Rattle.layout.specs.Layout.{holder_bytes, holder_of, is_holder, is_rebuilder, rebuilder_bytes, rebuilder_of, rebuilder_size, holder_size}

@@ -1,5 +1,5 @@
 -- 02, CR 12: lists, counts and calls, computed on the definitions.
-use Rattle.std.specs.Prelude.{◌≡◌, refl, List, [], ◌∷◌, map, ℕ, length}
+use Rattle.std.specs.Prelude.{◌≡◌, refl, [], ◌∷◌, map, ℕ, length}
 use Rattle.std.proofs.Math.Decide.{ℕ_discrete}
 use Rattle.strings.specs.Results.{refusal, value}
 use Rattle.codes.specs.Syndrome.{syndrome}

@@ -11,8 +11,7 @@ use Rattle.strings.specs.Bits.{max_bits, range, bytes_for, Part}
 use Rattle.strings.specs.StringRule.{string_rule}
 use Rattle.strings.specs.SettingLimits.{hash_limits, key_limits}
 use Rattle.strings.specs.Refusals.{refusal_number}
-use Rattle.strings.specs.Results.{Result, refusal, value, unless}
-use Rattle.strings.specs.declared.Refusal.{Refusal}
+use Rattle.strings.specs.Results.{refusal, value}
 use Rattle.strings.specs.declared.Refusal.TheVariants.{BadSetting, BadString, OutOfRange, BufferTooShort}
 use Rattle.strings.proofs.laws.RuleLaws.{rule-is}
 use Rattle.strings.specs.laws.Tests.{and_left, and_right}

@@ -3,9 +3,9 @@ use Rattle.std.specs.Prelude.{◌≡◌, Bool, length, get_or, set, replicate}
 use Rattle.std.proofs.Math.Path.{refl, sym, ap, ap₂}
 use Rattle.std.proofs.Common.{◌∙◌, subst, mod-lt, mod-eq_of_lt, pow-suc, add-suc, suc-add, add-zero, zero-add, mul-add, mul-one, one-mul, zero-mul, mul-le-mul_right, length-append, length-set, get_or-set_same, get_or-set_other, pow-add, pow_mono}
 use Rattle.std.proofs.Math.Bool.{true, false, cond}
-use mathlib.Core.List.{List, [], ◌∷◌, ◌++◌, map, append_assoc, append-nil}
+use mathlib.Core.List.{List, [], ◌∷◌, ◌++◌, append_assoc, append-nil}
 use Prim.Native.Nat.{ℕ, zero, suc, ◌+◌, ◌-◌, ◌*◌, ◌/◌, ◌%◌, ◌^◌, ◌≤◌, ◌<◌}
-use Rattle.std.proofs.Math.Nat.{mod-add-mod, add-mod-mod, suc-mul, add-mul-mod_self_right}
+use Rattle.std.proofs.Math.Nat.{mod-add-mod, add-mod-mod, suc-mul}
 use Rattle.std.proofs.Math.Decide.{ℕ_discrete}
 use native.Mathlib.Omega.{arith}
 use Rattle.std.proofs.lemmas.List.{length-map, length-replicate, get_or-replicate}
@@ -19,7 +19,7 @@ use Rattle.codes.specs.laws.RepairLaws.{lack-is, lack-adds}
 use Rattle.codes.specs.Listing.{bits_of, listing}
 use Rattle.codes.specs.laws.ListingLaws.{length-bits, listing-from, listing-most, kept-most}
 use Rattle.codes.specs.code.Sums.{Residue}
-use Rattle.codes.specs.code.Linking.{kept, list_from, low_digits, high_digits, residue, high_residue, low_residue, wanted, lows, behind, blocks_from, blocks, first_or, Linked, Counted}
+use Rattle.codes.specs.code.Linking.{kept, list_from, low_digits, high_digits, low_residue, wanted, lows, behind, blocks_from, blocks, first_or, Linked, Counted}
 
 -- ---- a number's digits in two parts
 twice : (h c : ℕ) → h * 2 ^ suc c ≡ 2 * (h * 2 ^ c)

@@ -1,7 +1,7 @@
 -- Laws of numbers and bits, and of the list of all strings of one syndrome.
-use Rattle.std.specs.Prelude.{◌≡◌, Bool, ◌⊎◌, eqb}
+use Rattle.std.specs.Prelude.{◌≡◌, Bool, eqb}
 use Rattle.std.proofs.Math.Path.{refl, ap}
-use Rattle.std.proofs.Common.{sym, ap₂, ◌∙◌, subst, inl, inr, pow-suc, add-zero, length-append}
+use Rattle.std.proofs.Common.{sym, ap₂, ◌∙◌, subst, pow-suc, length-append}
 use Rattle.std.proofs.Math.Bool.{true, false, cond}
 use Rattle.std.proofs.Math.Logic.{⊎_elim, ite}
 use mathlib.Core.List.Memᴰ
@@ -21,7 +21,7 @@ use Rattle.strings.specs.declared.Refusal.TheVariants.{OutOfRange, ListTooShort}
 use Rattle.strings.specs.laws.StoreLaws.{sets-front}
 use Rattle.codes.specs.Syndrome.{syndrome}
 use Rattle.codes.specs.Counting.{strings, of_syndrome}
-use Rattle.codes.specs.Listing.{number_of, bits_of, listing, Rising, list_range, list_call, ListLeft, list_outcome}
+use Rattle.codes.specs.Listing.{number_of, bits_of, listing, Rising, list_range, list_call, list_outcome}
 use Rattle.codes.specs.code.Linking.{kept, list_from}
 
 -- ---- numbers and bits

@@ -21,7 +21,6 @@ use Rattle.codes.specs.code.HashForms.{Went}
 use Rattle.codes.specs.laws.HashLaws.{went_on, went-cut}
 use Rattle.codes.specs.laws.ColumnLaws.{column-bit, column-length, column-away, repair-to-found, repair-run-some}
 use Rattle.codes.specs.code.Weaving.{bit_put, bit_taken, woven_bit, woven_from, woven, column_edited, ColumnEdit, next_column, Placed, Around, behind_place, Spans, Smaller, Larger}
-use Rattle.codes.specs.code.Edits.{edited, repaired}
 use Rattle.codes.specs.laws.ColumnReadLaws.{column-inside}
 
 -- ---- bits of a column with one bit put in, or taken out

@@ -23,7 +23,7 @@ use Rattle.ends.specs.Soundness.{holder_sound, is_blank, blank_from, piece_fits,
 use Rattle.ends.specs.HolderCall.{fresh_holder, same_bit_count, sends, holder_call, Reply}
 use Rattle.ends.specs.RebuilderCall.{Started, starts, rebuilder_start, Step, Taken, no_row, string_after, sheet_after, tallied, effect_step, opening_step, whole_step, step_of, rebuilder_call, fresh_rebuilder}
 use Rattle.ends.specs.RebuilderOutcome.{capacities}
-use Rattle.ends.specs.Worlds.{Call, to_holder, to_rebuilder, Lent, World, first_world, world_after}
+use Rattle.ends.specs.Worlds.{Call, to_holder, to_rebuilder, Lent, first_world, world_after}
 use Rattle.ends.specs.declared.Stage.TheVariants.{Hashing}
 use Rattle.ends.specs.declared.Phase.TheVariants.{AtPieces}
 

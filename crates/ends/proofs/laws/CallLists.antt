@@ -1,15 +1,14 @@
 -- Lists of calls: what is known of the world in which a call comes, by induction from the first call on.
-use Rattle.std.specs.Prelude.{◌≡◌, Bool, ◌⊎◌, List, [], ◌∷◌, ◌++◌, ℕ, suc, ◌+◌, ◌*◌, ◌/◌, ◌≤◌, ◌<◌, length, leb}
+use Rattle.std.specs.Prelude.{◌≡◌, Bool, List, [], ◌∷◌, ◌++◌, ℕ, ◌+◌, ◌*◌, ◌/◌, ◌≤◌, ◌<◌, length, leb}
 use Rattle.std.proofs.Math.Path.{refl, ap, ap₂, subst}
-use Rattle.std.proofs.Common.{sym, ◌∙◌, inl, inr, div-le_self}
+use Rattle.std.proofs.Common.{sym, ◌∙◌, inl, inr}
 use Rattle.std.proofs.Math.Bool.{true, false}
-use Rattle.std.proofs.Math.Option.{Option, none, some}
+use Rattle.std.proofs.Math.Option.{some}
 use native.Mathlib.Omega.{arith}
 use borrow.Author.Tests.{eq-eqb, le-leb, lt-ltb}
-use Rattle.strings.specs.Bits.{at_front, bytes_for, pack, range, max_bits}
-use Rattle.strings.specs.Results.{Result, refusal, value}
+use Rattle.strings.specs.Bits.{bytes_for, range, max_bits}
+use Rattle.strings.specs.Results.{value}
 use Rattle.strings.specs.SettingLimits.{Limits}
-use Rattle.strings.proofs.laws.PackLaws.{pack-none}
 use Rattle.strings.proofs.laws.RangeLaws.{range_length}
 use Rattle.strings.proofs.laws.RuleLaws.{rule-is}
 use Rattle.strings.specs.laws.SettingLaws.{limits-is}
@@ -20,31 +19,29 @@ use Rattle.messages.specs.Questions.{question_burst, question_bytes, question_ki
 use Rattle.messages.specs.declared.Question.{Question}
 use Rattle.messages.specs.declared.Question.TheVariants.{AskBits, AskHash, AskOpen, AskSyndrome, AskBurst}
 use Rattle.messages.specs.laws.AnswerLaws.{answer-reads}
-use Rattle.messages.specs.laws.QuestionLaws.{InRange, empty-no-question, question-fields-read, question-kind-reads, question-known, question-reads}
-use Rattle.ends.specs.Claims.{zeroed, zeroed_next}
-use Rattle.ends.specs.HolderCall.{Reply, after_answer, fresh_holder, holder_call, in_turn, replies, same_bit_count, sends}
-use Rattle.ends.specs.RebuilderCall.{Step, Taken, bits_known, enough_for, fresh_rebuilder, rebuilder_call, sheet_after, step_of, string_after, takes, written_question}
+use Rattle.messages.specs.laws.QuestionLaws.{InRange, question-fields-read, question-kind-reads, question-known, question-reads}
+use Rattle.ends.specs.Claims.{zeroed_next}
+use Rattle.ends.specs.HolderCall.{after_answer, fresh_holder, holder_call, in_turn, replies, same_bit_count, sends}
+use Rattle.ends.specs.RebuilderCall.{Step, bits_known, enough_for, rebuilder_call, sheet_after, step_of, string_after, takes, written_question}
 use Rattle.ends.specs.RebuilderOutcome.{capacities}
-use Rattle.ends.specs.Runs.{Run, advance, answer, answer_for, continued, count_of, honest_answer, opening, question, run, run_from, size_of, whole, working, longest_answer}
-use Rattle.ends.specs.SheetCall.{leaves_on_sheet}
-use Rattle.ends.specs.HolderOutcome.{leaves_holder}
+use Rattle.ends.specs.Runs.{Run, advance, answer, answer_for, continued, honest_answer, opening, question, size_of, whole, working, longest_answer}
 use Rattle.ends.specs.Soundness.{sound, most_answers}
 use Rattle.ends.specs.States.{planned}
-use Rattle.ends.specs.Statement.{Admitted, HoldersAnswer, LongEnough, Member, OnceEach, Supposed, asked, counted_bytes, fixed, run_in}
-use Rattle.ends.specs.Worlds.{Call, Each, Lent, World, after_holder, after_rebuilder, bits_of_x, bits_of_y, first_world, holder_says, rebuilder_says, step_world, to_holder, to_rebuilder, world_after}
+use Rattle.ends.specs.Statement.{Member, Supposed}
+use Rattle.ends.specs.Worlds.{Lent, bits_of_x, bits_of_y}
 use Rattle.ends.specs.declared.Holder.{Holder}
 use Rattle.ends.specs.declared.Phase.TheVariants.{AtOpening, AtPieces, AtWhole}
 use Rattle.ends.specs.declared.Rebuilder.{Rebuilder}
 use Rattle.ends.specs.declared.Row.{Row}
 use Rattle.ends.specs.laws.Asking.{asks-planned}
-use Rattle.ends.specs.laws.Delivery.{NotOpen, inside-range, later-not-open, length_most, sheet-length-after, starts-so, step-answered, string-length-after}
+use Rattle.ends.specs.laws.Delivery.{NotOpen, inside-range, later-not-open, length_most, sheet-length-after, step-answered, string-length-after}
 use Rattle.ends.specs.laws.HolderLaws.{Made, OpenedIs, counts, fresh-holder-sound, heard-call, heard-made, holder-sound, opened-sound, opens, same_count}
-use Rattle.ends.specs.laws.Invariant.{Inv, Truth, advance-ok, question-inside, size_of_run}
+use Rattle.ends.specs.laws.Invariant.{Inv, Truth, advance-ok, question-inside}
 use Rattle.ends.proofs.laws.TrueAnswers.{advance-true, proper-now}
-use Rattle.ends.specs.laws.Kept.{Opened, counted, kept, opened}
-use Rattle.ends.specs.laws.RunLaws.{counted-snoc, length-snoc, run-snoc, written-waits, zeroed-snoc}
+use Rattle.ends.specs.laws.Kept.{Opened}
+use Rattle.ends.specs.laws.RunLaws.{length-snoc}
 use Rattle.ends.specs.laws.Shape.{Inside, ProperFor, sizes}
-use Rattle.ends.specs.laws.SoundSteps.{fresh-sound, step-sound}
+use Rattle.ends.specs.laws.SoundSteps.{step-sound}
 use Rattle.ends.specs.laws.Standing.{Stands}
 use Rattle.ends.specs.laws.Steps.{EnoughFor, stands-step}
 use Rattle.ends.specs.laws.Store.{Tidy, asks-same, keeps-pace, store_of}

@@ -1,9 +1,9 @@
 -- Demand 3: what is known of the world of each call gives what is claimed of it.
 use Rattle.std.specs.Prelude.{◌≡◌, refl, Bool, ◌⊎◌, List, [], ◌∷◌, ◌++◌, ℕ, ◌+◌, ◌*◌, ◌/◌, ◌≤◌, ◌<◌, length, drop}
-use Rattle.std.proofs.Common.{sym, ap, ap₂, ◌∙◌, subst, inl, inr, div-le_self, arith}
+use Rattle.std.proofs.Common.{sym, ap, ◌∙◌, subst, inl, div-le_self, arith}
 use Rattle.std.proofs.Math.Option.{Option, none, some}
 use Rattle.std.proofs.Math.Seq.{take-append_seam}
-use Rattle.strings.specs.Bits.{at_front, pack, max_bits}
+use Rattle.strings.specs.Bits.{at_front, pack}
 use Rattle.strings.specs.Results.{Result, refusal, value}
 use Rattle.strings.proofs.laws.PackLaws.{pack-none}
 use Rattle.strings.specs.laws.ResultLaws.{no_value}
@@ -14,23 +14,23 @@ use Rattle.messages.specs.Questions.{question_bytes, read_question}
 use Rattle.messages.specs.declared.Question.{Question}
 use Rattle.messages.specs.declared.Question.TheVariants.{AskOpen}
 use Rattle.messages.specs.laws.QuestionLaws.{empty-no-question, question-reads}
-use Rattle.ends.specs.Claims.{At, rows_at_front, zeroed, zeroed_next}
+use Rattle.ends.specs.Claims.{At, rows_at_front, zeroed}
 use Rattle.ends.specs.HolderCall.{Reply, after_answer, fresh_holder, holder_call, replies}
 use Rattle.ends.specs.HolderOutcome.{leaves_holder}
-use Rattle.ends.specs.RebuilderCall.{Started, Step, Taken, fresh_rebuilder, rebuilder_call, rebuilder_start, starts, step_of, sheet_after, string_after, takes, written_question}
+use Rattle.ends.specs.RebuilderCall.{Started, Step, Taken, fresh_rebuilder, rebuilder_call, rebuilder_start, starts, step_of, takes, written_question}
 use Rattle.ends.specs.RebuilderOutcome.{capacities, leaves_start, next_size}
 use Rattle.ends.specs.Runs.{Run, advance, count_of, full, honest_answer, opening, pieces_of, question, run, sheet_of, size_of, string, whole, working, longest_answer}
 use Rattle.ends.specs.Segments.{settled}
 use Rattle.ends.specs.SheetCall.{SheetSaid, leaves_on_sheet}
 use Rattle.ends.specs.Soundness.{most_answers}
 use Rattle.ends.specs.States.{planned}
-use Rattle.ends.specs.Statement.{Admitted, AfterClaims, Begins, CallClaims, Demand3, FairCall, HolderClaims, HoldersAnswer, LongEnough, Member, NextGiven, OnceEach, RebuilderClaims, Supposed, WasTaken, asked, counted_bytes, fixed, run_in}
-use Rattle.ends.specs.Worlds.{Call, Each, Lent, World, after_holder, after_rebuilder, bits_of_x, bits_of_y, first_world, holder_says, rebuilder_says, start_says, step_world, to_holder, to_rebuilder, world_after}
+use Rattle.ends.specs.Statement.{Admitted, AfterClaims, Begins, CallClaims, Demand3, FairCall, HolderClaims, HoldersAnswer, Member, NextGiven, OnceEach, RebuilderClaims, Supposed, WasTaken, asked, counted_bytes, fixed, run_in}
+use Rattle.ends.specs.Worlds.{Call, Each, Lent, World, after_holder, after_rebuilder, bits_of_x, bits_of_y, first_world, step_world, to_holder, to_rebuilder, world_after}
 use Rattle.ends.specs.declared.Holder.{Holder}
 use Rattle.ends.specs.declared.How.{How}
 use Rattle.ends.specs.declared.Rebuilder.{Rebuilder}
 use Rattle.ends.specs.declared.Row.{Row}
-use Rattle.ends.proofs.laws.CallLists.{HolderIs, Honest, L, Past, Rep, continues, has_opened, holder-step, in-range, later-reply, n_x, next, opening-reply, past_more, past-now, rep_next, same-opening, takes-it, unopened, x-few, x-length, y-length}
+use Rattle.ends.proofs.laws.CallLists.{HolderIs, Honest, L, Past, Rep, continues, has_opened, holder-step, in-range, later-reply, n_x, opening-reply, past_more, past-now, rep_next, same-opening, takes-it, unopened, x-few, x-length, y-length}
 use Rattle.ends.specs.laws.Delivery.{starts-so}
 use Rattle.ends.specs.laws.Invariant.{Truth}
 use Rattle.ends.specs.laws.Kept.{Opened, counted, kept, opened}

@@ -1,5 +1,5 @@
 -- Laws for the proofs of the rebuilder's call and start: which question waits, and what was read as its answer.
-use Rattle.std.specs.Prelude.{◌≡◌, Bool, true, false, ◌&&◌, ◌||◌, ◌⊎◌, ℕ, ◌+◌, ◌-◌, ◌*◌, ◌/◌, ◌≤◌, ◌<◌, take, drop, leb, eqb}
+use Rattle.std.specs.Prelude.{◌≡◌, Bool, true, false, ◌&&◌, ◌⊎◌, ℕ, ◌+◌, ◌-◌, ◌*◌, ◌/◌, ◌≤◌, ◌<◌, take, drop, leb, eqb}
 use Rattle.std.proofs.Math.Path.{refl, ap}
 use Rattle.std.proofs.Common.{sym, ap₂, ◌∙◌, subst, inl, inr, arith, length-drop, take_all}
 use mathlib.Core.List.{List, []}
@@ -35,7 +35,7 @@ use Rattle.ends.specs.declared.How.TheVariants.{ByBits}
 use Rattle.ends.specs.declared.Rebuilder.{Rebuilder}
 use Rattle.ends.specs.declared.SheetChange.TheVariants.{NoRow, OneRow}
 use Rattle.strings.specs.SettingLimits.{within_limits}
-use Rattle.ends.specs.Segments.{row, how_number, asks}
+use Rattle.ends.specs.Segments.{how_number, asks}
 use Rattle.ends.specs.Runs.{size_of}
 use Rattle.ends.specs.laws.Shape.{ProperFor, Inside, sizes, size-bits}
 use Rattle.strings.specs.laws.SettingLaws.{limits-is}
@@ -60,7 +60,6 @@ use Rattle.ends.specs.declared.Stage.{Stage}
 use Rattle.ends.specs.declared.Stage.TheVariants.{Hashing, PuttingIn, TakingOut, Anchor, AllBits, Columns}
 use Rattle.ends.specs.declared.Phase.{Phase}
 use Rattle.ends.specs.declared.Phase.TheVariants.{AtOpening, AtPieces, AtWhole}
-use Rattle.codes.specs.Columns.{syndromes}
 
 -- ---- the whole string
 module _ (st : Rebuilder) (size capacity : ℕ) (k : WholeDue st size capacity) where

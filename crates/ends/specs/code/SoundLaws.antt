@@ -1,5 +1,5 @@
 -- A state that passes the soundness test meets what the functions of src/state.rt require.
-use Rattle.std.specs.Prelude.{◌≡◌, true, ◌&&◌, ℕ, ◌≤◌, ◌<◌, eqb}
+use Rattle.std.specs.Prelude.{◌≡◌, true, ℕ, ◌≤◌, ◌<◌, eqb}
 use Rattle.std.proofs.Common.{div-le_self, arith}
 use Rattle.std.proofs.Math.Nat.{max-le}
 use Rattle.strings.specs.laws.Tests.{by-test}
@@ -13,7 +13,6 @@ use Rattle.ends.specs.laws.Counts.{before-most}
 use Rattle.ends.specs.code.StateCode.{Counts, Asks, Plans}
 use Rattle.ends.specs.declared.Phase.{Phase}
 use Rattle.ends.specs.declared.Phase.TheVariants.{AtOpening, AtPieces, AtWhole}
-use Rattle.ends.specs.Segments.{asks}
 use Rattle.strings.specs.Bits.{max_bits}
 
 -- ---- the counts

@@ -1,5 +1,5 @@
 -- What the functions of src/state.rt require, and laws for their proofs.
-use Rattle.std.specs.Prelude.{◌≡◌, cond, ◌||◌, true, false, ℕ, ◌+◌, ◌-◌, ◌*◌, ◌≤◌, ◌<◌, set, eqb}
+use Rattle.std.specs.Prelude.{◌≡◌, cond, true, false, ℕ, ◌+◌, ◌-◌, ◌*◌, ◌≤◌, ◌<◌, set, eqb}
 use Rattle.std.proofs.Math.Path.{refl}
 use Rattle.std.proofs.Common.{sym, ap, ◌∙◌, le_refl, arith}
 use Rattle.std.proofs.Math.Option.{Option, none, some}

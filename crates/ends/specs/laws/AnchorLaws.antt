@@ -4,7 +4,6 @@ use Rattle.std.proofs.Common.{sym, ap, ◌∙◌, le_refl, arith, leb-true, leb-
 use Rattle.std.proofs.Math.Option.{Option, none, some}
 use Rattle.std.proofs.Math.Decide.{ℕ_discrete}
 use Rattle.ends.specs.Anchors.{Best, place_distance, fits, nearer, nearest, place, places}
-use Rattle.ends.specs.Segments.{first_stage}
 use Rattle.strings.specs.laws.Tests.{true-false}
 
 nearest-best : (f : ℕ → Bool) (d : ℕ → ℕ) (i n : ℕ) → Best f d i n (nearest f d (places i n))

@@ -1,5 +1,5 @@
 -- Parts of the proof of demand 3: questions, lengths of buffers, counts, the start.
-use Rattle.std.specs.Prelude.{◌≡◌, refl, Bool, true, ◌&&◌, List, [], ◌∷◌, ◌++◌, ℕ, ◌+◌, ◌-◌, ◌≤◌, replicate, length, leb, ltb}
+use Rattle.std.specs.Prelude.{◌≡◌, refl, Bool, true, List, [], ◌∷◌, ℕ, ◌+◌, ◌-◌, ◌≤◌, replicate, length, leb}
 use Rattle.std.proofs.Common.{ap, sym, arith, leb-true, le-leb}
 use Rattle.std.proofs.Math.Option.{some}
 use Rattle.std.proofs.Math.Seq.{length-sets}
@@ -13,8 +13,8 @@ use Rattle.strings.specs.SettingLimits.{Limits, within_limits}
 use Rattle.ends.specs.laws.Kept.{Opened}
 use Rattle.ends.specs.laws.Moves.{effect_state, moved-effect, moved-opening}
 use Rattle.ends.specs.RebuilderCall.{StringChange, clears, effect_step, fresh_rebuilder, keeps, no_row, opening_step, rebuilder_start, sheet_after, starts, step_of, string_after, tallied, whole_step, writes, Started}
-use Rattle.ends.specs.Runs.{Run, advance, judge, opening, question, size_of, string, whole, working}
-use Rattle.ends.specs.Segments.{Effect, Segment, ask, asks, dropped, effect, new_rows, settled, settles, splits, stays, step, the_bits, the_size, waiting, waits}
+use Rattle.ends.specs.Runs.{Run, opening, question, whole, working}
+use Rattle.ends.specs.Segments.{Effect, Segment, ask, asks, dropped, effect, settled, settles, splits, stays, the_bits, the_size, waiting}
 use Rattle.ends.specs.laws.Shape.{Inside}
 use Rattle.strings.specs.laws.SettingLaws.{limits-is}
 use Rattle.ends.specs.laws.SoundParts.{PhaseOf, is_opening, is_pieces, is_whole, phase-of, sound-is, top-is}
@@ -29,7 +29,6 @@ use Rattle.ends.specs.declared.SheetChange.TheVariants.{AddRow, NoRow, OneRow}
 use Rattle.strings.specs.Bits.{bytes_for, range, max_bits}
 use Rattle.strings.proofs.laws.PackLaws.{length-cleared}
 use Rattle.strings.specs.StringRule.{string_rule}
-use Rattle.strings.specs.laws.Tests.{by-test}
 use Rattle.strings.proofs.laws.WriteLaws.{length-write_bits}
 use Rattle.strings.specs.declared.Refusal.TheVariants.{BadSetting, BadString, BufferTooShort}
 use Rattle.ends.specs.declared.Stage.TheVariants.{Hashing, PuttingIn, TakingOut, Anchor, AllBits, Columns}

@@ -12,7 +12,7 @@ use Rattle.ends.specs.laws.Counts.{pot, row_cost}
 use Rattle.ends.specs.laws.Invariant.{Held, Inv, Truth}
 use Rattle.strings.specs.SettingLimits.{Limits}
 use Rattle.ends.specs.laws.Right.{Good}
-use Rattle.ends.specs.Runs.{Run, advance, blank, copies, count_of, judge, opening, pieces_of, question, run, sheet_of, size_of, string, whole, working, full, longest_answer}
+use Rattle.ends.specs.Runs.{Run, advance, blank, copies, count_of, judge, opening, pieces_of, question, sheet_of, size_of, string, whole, working, full, longest_answer}
 use Rattle.ends.specs.laws.SegmentLaws.{Chain}
 use Rattle.ends.specs.Segments.{Segment, ask, dropped, new_rows, row, rows_of, settled, span, step, waiting, waits}
 use Rattle.ends.specs.declared.How.{How}

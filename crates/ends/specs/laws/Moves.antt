@@ -9,7 +9,6 @@ use native.Mathlib.Omega.{arith}
 use Rattle.std.proofs.Math.Decide.{ℕ_discrete}
 use Rattle.std.proofs.Math.ListN.{get_or}
 use Rattle.std.proofs.Math.Seq.{get_or-set_other}
-use Rattle.ends.specs.Runs.{blank}
 use Rattle.ends.specs.Segments.{Effect, settles, splits, stays}
 use Rattle.ends.specs.laws.StackLaws.{held-push, held-set}
 use Rattle.ends.specs.RebuilderCall.{opened_state, opening_step}

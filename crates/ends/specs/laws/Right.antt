@@ -6,7 +6,7 @@ use Rattle.std.proofs.Math.Option.{Option, none, some}
 use Prim.Native.Nat.{ℕ, zero, suc, ◌+◌, ◌-◌, ◌*◌, ◌≤◌, ◌<◌}
 use native.Mathlib.Omega.{arith}
 use Rattle.codes.specs.Repair.{Deletion, put_in, take_out}
-use Rattle.codes.specs.laws.RepairLaws.{deletion-length, put-in-found, put-in-length, put-in-repairs, take-out-found, take-out-length, take-out-repairs}
+use Rattle.codes.specs.laws.RepairLaws.{put-in-found, put-in-length, put-in-repairs, take-out-found, take-out-length, take-out-repairs}
 use Rattle.codes.specs.Syndrome.{syndrome}
 use Rattle.ends.specs.Anchors.{part, place, distance}
 use Rattle.strings.specs.SettingLimits.{Limits}

@@ -1,9 +1,9 @@
 -- One message more at the end of a run's messages, and one list of calls behind another.
-use Rattle.std.specs.Prelude.{◌≡◌, refl, Bool, List, [], ◌∷◌, ◌++◌, ℕ, suc, ◌+◌, ◌<◌, length, take}
-use Rattle.std.proofs.Common.{ap, subst, arith}
+use Rattle.std.specs.Prelude.{◌≡◌, refl, Bool, List, [], ◌∷◌, ◌++◌, ℕ, ◌+◌, ◌<◌, length}
+use Rattle.std.proofs.Common.{arith}
 use Rattle.std.proofs.Math.Seq.{take-append_seam}
 use Rattle.strings.specs.Bits.{at_front}
-use Rattle.strings.specs.Results.{Result, value}
+use Rattle.strings.specs.Results.{value}
 use Rattle.strings.specs.declared.settings.Settings.{Settings}
 use Rattle.ends.specs.Claims.{zeroed_from, zeroed_next}
 use Rattle.ends.specs.RebuilderOutcome.{next_size}

@@ -1,5 +1,5 @@
 -- What the pieces keep, whatever a reader lets through as an answer.
-use Rattle.std.specs.Prelude.{◌≡◌, refl, Bool, List, ◌∷◌, length, take, drop, eqb}
+use Rattle.std.specs.Prelude.{◌≡◌, refl, Bool, List, length, take, drop, eqb}
 use Rattle.std.proofs.Common.{ap, ◌∙◌, subst}
 use Rattle.std.proofs.Math.Option.{Option, none, some}
 use Prim.Native.Nat.{ℕ, zero, suc, ◌+◌, ◌-◌, ◌≤◌, ◌<◌}

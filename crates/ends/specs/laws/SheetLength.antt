@@ -1,5 +1,5 @@
 -- A taken call's change of the sheet lies in the lent sheet, so code that has the rebuilder's contract can do it; and its row is small.
-use Rattle.std.specs.Prelude.{◌≡◌, refl, true, ◌&&◌, List, ℕ, zero, suc, ◌+◌, ◌-◌, ◌*◌, ◌/◌, ◌≤◌, ◌<◌, length, leb}
+use Rattle.std.specs.Prelude.{◌≡◌, refl, true, ◌&&◌, List, ℕ, zero, suc, ◌+◌, ◌*◌, ◌/◌, ◌≤◌, ◌<◌, length, leb}
 use native.Mathlib.Omega.{arith}
 use Rattle.std.proofs.Common.{leb-true}
 use Rattle.strings.specs.Bits.{bytes_for, range, max_bits}

@@ -1,18 +1,17 @@
 -- What a state that passes the soundness test has: the test, part by part, as statements.
-use Rattle.std.specs.Prelude.{◌≡◌, refl, Bool, true, false, cond, ◌&&◌, ◌||◌, ◌∷◌, ℕ, zero, suc, ◌+◌, ◌-◌, ◌*◌, ◌/◌, ◌≤◌, ◌<◌, length, get_or, leb, ltb, eqb}
+use Rattle.std.specs.Prelude.{◌≡◌, refl, Bool, true, false, cond, ◌&&◌, ◌∷◌, ℕ, zero, suc, ◌+◌, ◌-◌, ◌*◌, ◌/◌, ◌≤◌, ◌<◌, length, get_or, leb, ltb, eqb}
 use Rattle.std.proofs.Common.{ap, ◌∙◌, arith, eqb-true, ltb-true, leb-true, le-leb, lt-ltb, ne_eqb}
 use Rattle.std.proofs.Math.Option.{none, some}
 use Rattle.std.proofs.Math.Decide.{ℕ_discrete, dec_le}
 use Rattle.std.proofs.lemmas.Bool.{eqb-false}
 use Rattle.messages.specs.declared.Question.{Question}
 use Rattle.messages.specs.declared.Question.TheVariants.{AskBits, AskOpen}
-use Rattle.ends.specs.Anchors.{fits}
 use Rattle.ends.specs.Soundness.{bound, asks_left, blank_from, in_order, most_counted, opening_sound, phase_sound, pieces_sound, rows_in_limit, rows_of_waiting, sound, stack_sound, stage_fits, top_fits, whole_sound, asks_before, is_hashing, sound_at}
 use Rattle.strings.specs.SettingLimits.{Limits, within_limits}
 use Rattle.ends.specs.laws.Moves.{Blank, held-top}
 use Rattle.ends.specs.laws.Right.{Long, StageOk, offset-fits}
-use Rattle.ends.specs.Runs.{blank, longest_answer}
-use Rattle.ends.specs.Segments.{asks, waiting}
+use Rattle.ends.specs.Runs.{longest_answer}
+use Rattle.ends.specs.Segments.{asks}
 use Rattle.ends.specs.laws.Shape.{Inside}
 use Rattle.strings.specs.laws.SettingLaws.{is-limits, limits-is}
 use Rattle.ends.specs.laws.SoundLaws.{Ordered, blank-is, fits-stage, is-blank, is-order, order_is}

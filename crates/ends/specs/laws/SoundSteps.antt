@@ -10,15 +10,14 @@ use lib.ListN.{replicate, length-replicate, length, get_or}
 use Rattle.std.proofs.lemmas.Bool.{eqb-false}
 use Rattle.messages.specs.Answers.{Answer}
 use Rattle.messages.specs.declared.Question.{Question}
-use Rattle.ends.specs.Anchors.{fits}
 use Rattle.ends.specs.laws.Counts.{Sane, before-most, cut, deep, deeper, sane}
 use Rattle.ends.specs.Soundness.{bound, asks_left, opening_sound, rows_of_waiting, sound, stage_fits, top_fits, asks_before, is_hashing}
 use Rattle.strings.specs.SettingLimits.{Limits}
 use Rattle.ends.specs.laws.Moves.{Blank, effect_state, held-top, moved-effect, moved-opening}
 use Rattle.ends.specs.RebuilderCall.{counting, effect_step, fresh_rebuilder, opened_state, opening_step, step_of, tallied, whole_step}
 use Rattle.ends.specs.laws.Right.{StageOk}
-use Rattle.ends.specs.Runs.{blank, size_of, full, longest_answer}
-use Rattle.ends.specs.Segments.{Effect, asks, effect, settles, splits, stays, the_bits, the_size, next_stage, first_stage, later_stage, too_small}
+use Rattle.ends.specs.Runs.{size_of, full, longest_answer}
+use Rattle.ends.specs.Segments.{Effect, effect, settles, splits, stays, the_bits, the_size, next_stage, first_stage, later_stage, too_small}
 use Rattle.ends.specs.laws.Shape.{Inside, ProperFor, proper-full, proper-size, sizes}
 use Rattle.ends.specs.laws.SoundLaws.{Ordered, first_fits, fits-stage, next_fits, ordered-from}
 use Rattle.ends.specs.States.{held, left_piece, no_piece, planned, popped, pushed, restaged, retried, right_piece, split_at, top}

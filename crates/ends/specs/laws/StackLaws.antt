@@ -1,5 +1,5 @@
 -- Laws of stages, and of the array of waiting pieces.
-use Rattle.std.specs.Prelude.{◌≡◌, Bool, cond, List, ◌∷◌, ℕ, zero, suc, ◌+◌, ◌-◌, ◌≤◌, ◌<◌, set, length, get_or, ltb, eqb}
+use Rattle.std.specs.Prelude.{◌≡◌, Bool, cond, List, ◌∷◌, ℕ, zero, suc, ◌-◌, ◌≤◌, ◌<◌, set, length, get_or, ltb, eqb}
 use Rattle.std.proofs.Math.Path.{refl}
 use Rattle.std.proofs.Common.{ap, ap₂, arith, get_or-set_same, get_or-set_other, lt-ltb, ne_eqb}
 use Rattle.std.proofs.Math.Option.{Option, none, some}

@@ -13,7 +13,7 @@ use Rattle.ends.specs.Claims.{rows_at_front}
 use Rattle.ends.specs.laws.Kept.{blank-length}
 use Rattle.ends.specs.laws.Moves.{Moved, effect_state, moved-effect, moved-push}
 use Rattle.ends.specs.RebuilderCall.{effect_step, no_row, opened_state, opening_step, sheet_after, string_after, tallied, whole_step}
-use Rattle.ends.specs.Runs.{blank, string}
+use Rattle.ends.specs.Runs.{blank}
 use Rattle.ends.specs.Segments.{Effect, row, settles, splits, stays, next_stage, first_stage}
 use Rattle.ends.specs.laws.StackLaws.{IsNext, held_any, restage-held}
 use Rattle.ends.specs.States.{held, left_piece, no_piece, popped, pushed, restaged, retried, right_piece, split_at, top}

@@ -1,7 +1,7 @@
 -- A sheet of bytes and a list of rows that hold the same rows still do after the same change.
 use Rattle.std.specs.Prelude.{◌≡◌, length, set, replicate}
 use Rattle.std.proofs.Math.Path.{refl, ap₂}
-use Rattle.std.proofs.Common.{sym, ap, ◌∙◌, add-zero, zero-add, mul-zero, arith}
+use Rattle.std.proofs.Common.{sym, ap, ◌∙◌, add-zero, zero-add, arith}
 use mathlib.Core.List.{List, [], ◌∷◌, ◌++◌, append-nil}
 use Prim.Native.Nat.{ℕ, zero, suc, ◌+◌, ◌-◌, ◌*◌, ◌/◌, ◌≤◌, ◌<◌}
 use Rattle.std.proofs.lemmas.List.{length-replicate, replicate-append-replicate}
@@ -62,7 +62,9 @@ unfolding rows_at
 row-store s at zero i r f h k = absurd (omega arith)
 row-store s at (suc n) zero r f h k =
     let l = length-row r in
-    rw (mul-zero 12, add-zero at) (ap₂ (λ (x : Row) (m : List Row). x ∷ m) (row-stored s at r f (omega arith)) (rows-after s at (row_bytes r) (at + 12) n (omega arith)))
+    let e : at + 12 * zero ≡ at = omega arith in
+    ap (λ (j : ℕ). rows_at (sets s j (row_bytes r)) at (suc n)) e ∙
+    ap₂ (λ (x : Row) (m : List Row). x ∷ m) (row-stored s at r f (omega arith)) (rows-after s at (row_bytes r) (at + 12) n (omega arith))
 row-store s at (suc n) (suc i) r f h k =
     let e : at + 12 * suc i ≡ at + 12 + 12 * i = omega arith in
     ap₂ (λ (x : Row) (m : List Row). x ∷ m) (row_before s (at + 12 * suc i) (row_bytes r) at (omega arith))

@@ -1,11 +1,11 @@
 -- 02, CR 1: some messages of kind 4, worked out.
-use Rattle.std.specs.Prelude.{◌≡◌, refl, List, [], ◌∷◌, ℕ}
-use Rattle.strings.specs.Results.{Result, refusal, value, unless, and_then}
+use Rattle.std.specs.Prelude.{◌≡◌, refl, [], ◌∷◌}
+use Rattle.strings.specs.Results.{refusal, value}
 use Rattle.messages.specs.declared.Question.TheVariants.{AskBurst}
 use Rattle.messages.specs.declared.Kind.TheVariants.{Burst}
 use Rattle.messages.specs.Numbers.{groups, number, next_byte, number_at, two_at, three_at, all_numbers, numbers_at}
 use Rattle.messages.specs.Kinds.{kind_at}
-use Rattle.messages.specs.Questions.{question_bytes, burst_range_at, fields_at, read_question}
+use Rattle.messages.specs.Questions.{burst_range_at, fields_at, read_question}
 use Rattle.messages.specs.Answers.{burst_answer, within_columns, answer_fields, read_answer, answer_bytes, burst_syndromes}
 use Rattle.messages.specs.Answers.{burst_at}
 

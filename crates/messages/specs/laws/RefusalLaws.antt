@@ -1,6 +1,6 @@
 -- A message that is not read gets one of 01's numbers.
 use Rattle.std.specs.Prelude.{Bool, true, false, cond, List, ◌∷◌, ℕ, zero, suc, ◌+◌, ◌-◌, ◌*◌, ◌^◌, length, get_or, drop, leb, ltb, eqb}
-use Rattle.strings.specs.Bits.{max_bits, bytes_for, range}
+use Rattle.strings.specs.Bits.{max_bits, bytes_for}
 use Rattle.strings.specs.Results.{Result, value, unless, and_then, mapped}
 use Rattle.strings.specs.SettingLimits.{between, hash_limits, key_limits}
 use Rattle.strings.specs.StringRule.{string_rule}
@@ -14,7 +14,7 @@ use Rattle.messages.specs.Numbers.{next_byte, number_at, two_at, three_at, numbe
 use Rattle.messages.specs.Kinds.{kind_number, kind_of, kind_at}
 use Rattle.messages.specs.Questions.{opening_in, opening_at, range_in, range_question, burst_in, fields_at}
 use Rattle.messages.specs.Questions.{burst_range_at}
-use Rattle.messages.specs.Answers.{Answer, size_answer, hash_answer, syndrome_answer, burst_answer, size_at, hash_at, syndrome_at, bits_at, within_columns, burst_at, answer_fields, read_answer}
+use Rattle.messages.specs.Answers.{size_answer, hash_answer, syndrome_answer, burst_answer, size_at, hash_at, syndrome_at, bits_at, within_columns, burst_at, answer_fields, read_answer}
 
 numbered-cond : {A : Type 0} (t : Bool) (a b : Result A) → Numbered a → Numbered b → Numbered (cond t a b)
 numbered-cond true a b x y = x

@@ -1,4 +1,3 @@
-use Prim.Native.Nat.{◌-◌}
 use Rattle.strings.proofs.laws.ByteLaws.{eight-whole, eight-joined}
 use Rattle.strings.proofs.eight_bits.Goals as goal
 

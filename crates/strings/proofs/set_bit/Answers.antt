@@ -1,4 +1,3 @@
-use Prim.Native.Nat.{◌-◌}
 use Rattle.strings.proofs.laws.BitLaws.{set-turned}
 use Rattle.strings.proofs.set_bit.Goals as goal
 

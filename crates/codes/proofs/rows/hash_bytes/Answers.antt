@@ -1,4 +1,3 @@
-use Prim.Native.Nat.{◌-◌}
 use native.Mathlib.Omega.{arith}
 use Rattle.strings.specs.Bits.{byte_bits}
 use Rattle.strings.proofs.laws.ByteLaws.{eight-first, eight-next, eight-last}

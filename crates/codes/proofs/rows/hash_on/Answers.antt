@@ -1,5 +1,4 @@
 -- `codes::hash_on` meets its contract. Assumes nothing.
-use Prim.Native.Nat.{◌-◌}
 use Rattle.strings.proofs.laws.ByteLaws.{eight-rest}
 use Rattle.codes.specs.laws.HashLaws.{went_on, went-as}
 use Rattle.codes.proofs.rows.hash_on.Goals as goal

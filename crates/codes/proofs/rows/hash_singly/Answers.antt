@@ -1,6 +1,5 @@
 use mathlib.Core.Path.{refl}
 use mathlib.Core.List.{[], ◌∷◌}
-use Prim.Native.Nat.{◌-◌}
 use native.Mathlib.Omega.{arith}
 use Rattle.strings.proofs.laws.RangeLaws.{rest-first, rest-last, rest-is}
 use Rattle.codes.specs.laws.HashLaws.{went-first, went-last, went-next}

@@ -1,6 +1,6 @@
 -- `codes::copy_woven` meets its contract: the bits before the middle, the middle, the bits behind it. Assumes nothing.
 use mathlib.Core.Path.{ap, ◌∙◌}
-use Prim.Native.Nat.{◌-◌, ◌≤◌}
+use Prim.Native.Nat.{◌≤◌}
 use native.Mathlib.Omega.{arith}
 use lib.ListN.{length}
 use Rattle.strings.proofs.laws.WriteLaws.{length-write_bits}

@@ -1,6 +1,6 @@
 -- `codes::hash_woven` meets its contract: the bits before the middle, the middle, the bits behind it. Assumes nothing.
 use mathlib.Core.Path.{◌∙◌}
-use Prim.Native.Nat.{◌-◌, ◌≤◌}
+use Prim.Native.Nat.{◌≤◌}
 use native.Mathlib.Omega.{arith}
 use Rattle.codes.specs.laws.WeavingLaws.{before-within, behind-within, behind-wide, parts-hashed}
 use borrow.Author.Rules.{rules}

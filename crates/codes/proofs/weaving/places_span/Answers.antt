@@ -1,5 +1,5 @@
 use mathlib.Core.Logic.{⊎_elim}
-use Prim.Native.Nat.{◌-◌, ◌+◌, ◌<◌}
+use Prim.Native.Nat.{◌+◌, ◌<◌}
 use native.Mathlib.Omega.{arith}
 use Rattle.codes.specs.laws.WeavingLaws.{spans-first, spans-next}
 use borrow.Author.Rules.{rules}

@@ -1,4 +1,4 @@
-use Prim.Native.Nat.{◌+◌, ◌-◌}
+use Prim.Native.Nat.{◌+◌}
 use native.Mathlib.Omega.{arith}
 use Rattle.ends.specs.code.AnchorSearchLaws.{root_is, square-grows, square-fits}
 use Rattle.ends.proofs.anchors.isqrt.Goals as goal

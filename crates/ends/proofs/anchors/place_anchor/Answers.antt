@@ -1,4 +1,4 @@
-use Prim.Native.Nat.{◌+◌, ◌-◌, ◌*◌, ◌≤◌, ◌<◌}
+use Prim.Native.Nat.{◌+◌, ◌*◌, ◌≤◌, ◌<◌}
 use native.Mathlib.Omega.{arith}
 use borrow.Author.Rules.{rules}
 use Rattle.ends.specs.code.AnchorSearchLaws.{isqrt-le, reach-fits, end-most, end-near, end-less, start-most, start-near, alike-none, alike_next, search-start, search-differs, search-agrees, search-at, search-nowhere}

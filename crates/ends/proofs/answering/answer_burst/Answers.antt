@@ -3,13 +3,6 @@ use mathlib.Core.List.{List}
 use Prim.Native.Nat.{ℕ}
 use Rattle.messages.specs.Answers.{burst_answer, answer_bytes}
 use Rattle.ends.proofs.code.HolderCodeLaws.{written-said}
-use Rattle.ends.proofs.answering.answer_burst.Reads as reads
-use Rattle.ends.proofs.answering.answer_burst.Lts as lts
-use Rattle.codes.proofs.hash_of.Reads as hash-of-reads
-use Rattle.ends.proofs.answering.column_syndromes.Reads as column-syndromes-reads
-use Rattle.ends.proofs.answering.one_more.Reads as one-more-reads
-use Rattle.ends.proofs.answering.reply_written.Reads as reply-written-reads
-use Rattle.messages.proofs.write_burst.Reads as write-burst-reads
 use Rattle.ends.proofs.answering.answer_burst.Goals as goal
 
 -- src/answering.rt:154:1

@@ -1,14 +1,10 @@
 use mathlib.Core.Path.{◌≡◌, refl, sym, ◌∙◌}
 use mathlib.Core.Bool.{true, ◌&&◌}
-use mathlib.Core.Option.{Option, some}
-use lib.ListN.{length}
+use mathlib.Core.Option.{some}
 use lib.Dec.{eqb}
 use Rattle.strings.specs.StringRule.{string_rule}
-use Rattle.messages.specs.declared.Question.{Question}
 use Rattle.ends.specs.Soundness.{sound}
 use Rattle.ends.specs.States.{planned}
-use Rattle.ends.specs.RebuilderCall.{awaits, rebuilder_call}
-use Rattle.ends.specs.RebuilderOutcome.{capacities}
 use Rattle.ends.specs.code.SoundLaws.{sound-plans}
 use Rattle.strings.specs.laws.Tests.{test-is}
 use Rattle.ends.specs.code.RebuilderCodeLaws.{none-planned, some-planned}

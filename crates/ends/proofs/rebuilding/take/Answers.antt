@@ -1,11 +1,7 @@
-use mathlib.Core.Path.{◌≡◌, refl}
-use mathlib.Core.Bool.{true}
+use mathlib.Core.Path.{refl}
 use Prim.Native.Nat.{◌≤◌}
 use native.Mathlib.Omega.{arith}
 use lib.ListN.{length}
-use Rattle.messages.specs.declared.AnswerRead.{AnswerRead}
-use Rattle.ends.specs.RebuilderOutcome.{RebuilderSaid, leaves_rebuilder, capacities}
-use Rattle.ends.specs.code.RebuilderParts.{enough_for_answer, heard_step}
 use Rattle.ends.specs.code.RebuilderCallLaws.{heard-size, heard-hash, heard-syndrome, heard-burst, heard-bits, cols-few, burst-answered, burst-said, bits_inside, bits-long, bits-said, read-said, enough-for, enough-is, enough-bits, acting-small, whole-small, refused-said}
 use Rattle.ends.proofs.rebuilding.take.Goals as goal
 

@@ -1,4 +1,3 @@
-use Prim.Native.Nat.{◌-◌}
 use native.Mathlib.Omega.{arith}
 use Rattle.ends.specs.code.SoundCode.{work-turn, work_none, part_small}
 use Rattle.ends.proofs.sound.work_left.Goals as goal

@@ -3,13 +3,6 @@ use Rattle.messages.specs.Answers.{burst_answer}
 use Rattle.ends.specs.declared.Stage.TheVariants.{Columns}
 use Rattle.ends.specs.code.RebuilderParts.{burst_of}
 use Rattle.ends.specs.code.RebuilderCodeLaws.{holds, copy-part, text-part, burst-apart, burst-bounds, narrow, early, burst-tried, step-burst, try-yes, try-no}
-use Rattle.ends.proofs.steps.take_burst.Reads as reads
-use Rattle.ends.proofs.steps.take_burst.Lts as lts
-use Rattle.codes.proofs.try_run.Reads as try-run-reads
-use Rattle.ends.proofs.state.length_distance.Reads as length-distance-reads
-use Rattle.ends.proofs.state.top.Reads as top-reads
-use Rattle.ends.proofs.steps.leave_waiting.Reads as leave-waiting-reads
-use Rattle.ends.proofs.steps.settle.Reads as settle-reads
 use Rattle.ends.proofs.steps.take_burst.Goals as goal
 
 -- src/steps.rt:214:9

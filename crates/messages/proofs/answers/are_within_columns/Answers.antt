@@ -1,12 +1,8 @@
 use borrow.Author.Rules.{rules}
 use mathlib.Core.Path.{◌≡◌, refl, sym, ◌∙◌}
-use Prim.Native.Nat.{◌-◌}
 use native.Mathlib.Omega.{arith}
 use lib.ListN.{length}
 use Rattle.messages.specs.code.Reading.{within_end, within-fails, within-turn}
-use Rattle.messages.proofs.answers.are_within_columns.Reads as reads
-use Rattle.messages.proofs.answers.are_within_columns.Lts as lts
-use Rattle.codes.proofs.column_length.Reads as column-length-reads
 use Rattle.messages.proofs.answers.are_within_columns.Goals as goal
 
 -- src/answers.rt:181:5

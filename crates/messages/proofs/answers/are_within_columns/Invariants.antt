@@ -2,9 +2,6 @@ use mathlib.Core.Path.{◌≡◌}
 use Prim.Native.Nat.{◌-◌, ◌≤◌}
 use lib.ListN.{take, drop}
 use Rattle.messages.specs.Answers.{within_columns}
-use Rattle.messages.proofs.answers.are_within_columns.Reads as reads
-use Rattle.messages.proofs.answers.are_within_columns.Lts as lts
-use Rattle.codes.proofs.column_length.Reads as column-length-reads
 use Rattle.messages.proofs.answers.are_within_columns.Given as goal
 
 abbrev pub invariant-loop-j : goal.invariant-loop-j
