@@ -189,9 +189,9 @@ fn rattle_source() {
     let markers = source("codes/src/markers.rt");
     let most = number_behind(&markers, "const MAX_MARKER_BITS: usize =");
     assert_eq!(most, MAX_MARKER_BITS as u64);
-    let steps = source("ends/src/steps.rt");
+    let ends = source("ends/src/lib.rt");
     for how in How::ALL {
-        let number = number_behind(&steps, &format!("How::By{how:?} =>"));
+        let number = number_behind(&ends, &format!("How::By{how:?} =>"));
         assert_eq!(number, how.number() as u64, "{how:?}");
     }
 }

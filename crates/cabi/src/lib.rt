@@ -16,7 +16,7 @@ ghost use Rattle.cabi.specs.Calls.{holder_made, holder_bytes_outcome, start_byte
 ghost use Rattle.layout.specs.Layout.{rebuilder_size, rebuilder_bytes};
 ghost use Rattle.layout.specs.Sheet.{row_size, sheet_bytes_after};
 
-use ends::{HolderAnswer, Rebuilder, RebuilderAnswer, SheetChange, StartAnswer};
+use ends::{Rebuilder, SheetChange};
 use layout::{HOLDER_BYTES, REBUILDER_BYTES, ROW_BYTES};
 use strings::{Refusal, Settings};
 
@@ -27,7 +27,7 @@ mod packing;
 pub extern "C" fn lo_syndrome(s: &[u8], bits: usize) -> u64
     ensures { result ≡ packed (syndrome_call s.now bits) }
 {
-    packing::pack_number(codes::syndrome(s, bits))
+    packing::pack(codes::syndrome(s, bits))
 }
 
 // The hash of a string.
@@ -35,7 +35,7 @@ pub extern "C" fn lo_syndrome(s: &[u8], bits: usize) -> u64
 pub extern "C" fn lo_hash(s: &[u8], bits: usize, h: u32, key: u32) -> u64
     ensures { result ≡ packed (hash_call s.now bits h key) }
 {
-    packing::pack_number(codes::hash(s, bits, h, key))
+    packing::pack(codes::hash(s, bits, h, key))
 }
 
 // The repair of a string to one of n bits with the syndrome a: 1 where it is done, 0 where there is none.
@@ -45,7 +45,7 @@ pub extern "C" fn lo_repair(s: &[u8], bits: usize, n: usize, a: usize, out: &mut
     ensures out_after { out.new ≡ (repair_outcome s.now bits n a out.old).buffer }
 {
     let answer = codes::repair(s, bits, n, a, out);
-    packing::pack_repair(answer)
+    packing::pack(answer)
 }
 
 // Every string of n bits and syndrome a as a number with the first bit highest, rising, in the entries of `out`: their count.
@@ -55,7 +55,7 @@ pub extern "C" fn lo_list(n: usize, a: usize, out: &mut [u32]) -> u64
     ensures out_after { out.new ≡ (list_outcome n a out.old).buffer }
 {
     let answer = codes::list_syndrome(n, a, out);
-    packing::pack_number(answer)
+    packing::pack(answer)
 }
 
 // The word of n bits and syndrome a for a message: 1 where it is built.
@@ -71,7 +71,7 @@ pub extern "C" fn lo_marker_build(
     ensures out_after { out.new ≡ (build_outcome message.now bits n a out.old).buffer }
 {
     let answer = codes::build_marker(message, bits, n, a, out);
-    packing::pack_build(answer)
+    packing::pack(answer)
 }
 
 // The message of the word of n bits and syndrome a for which a string is received: 1 where there is one, 0 where there is none.
@@ -87,7 +87,7 @@ pub extern "C" fn lo_marker_read(
     ensures out_after { out.new ≡ (read_outcome received.now bits n a out.old).buffer }
 {
     let answer = codes::read_marker(received, bits, n, a, out);
-    packing::pack_repair(answer)
+    packing::pack(answer)
 }
 
 // The place of an anchor plus 1, or 0 where there is none.
@@ -106,7 +106,7 @@ pub extern "C" fn lo_anchor(
     ensures { result ≡ packed (mapped place_number (anchor_search y.now bits start q p s m k a.now)) }
 {
     let answer = ends::find_anchor(y, bits, start, q, p, s, m, k, a);
-    packing::pack_place(answer)
+    packing::pack(answer)
 }
 
 // The state of a holder that has answered nothing.
@@ -143,12 +143,11 @@ pub extern "C" fn lo_holder_answer(
     }
     let st = layout::read_holder(state);
     let out = ends::holder_call(st, x, bits, msg, reply);
-    let answer = out.answer;
-    match answer {
-        HolderAnswer::Refused(e) => packing::pack_refusal(e),
-        HolderAnswer::Replied(size) => {
+    match out.answer {
+        Err(e) => packing::pack_refusal(e),
+        Ok(size) => {
             layout::write_holder(state, out.state);
-            (size as u64) * packing::VALUE_UNIT
+            packing::pack_value(size)
         }
     }
 }
@@ -181,12 +180,11 @@ pub extern "C" fn lo_rebuilder_start(
         return packing::pack_refusal(Refusal::BufferTooShort);
     }
     let out = ends::rebuilder_start(s, y, bits, question);
-    let answer = out.answer;
-    match answer {
-        StartAnswer::NotBegun(e) => packing::pack_refusal(e),
-        StartAnswer::Begun(size) => {
+    match out.answer {
+        Err(e) => packing::pack_refusal(e),
+        Ok(size) => {
             layout::write_rebuilder(state, out.state);
-            (size as u64) * packing::VALUE_UNIT
+            packing::pack_value(size)
         }
     }
 }
@@ -202,7 +200,7 @@ fn keep(state: &mut [u8], sheet: &mut [u8], st: Rebuilder, change: SheetChange, 
 {
     layout::write_rebuilder(state, st);
     layout::apply_change(sheet, change);
-    (size as u64) * packing::VALUE_UNIT
+    packing::pack_value(size)
 }
 
 // The rebuilder's call: the next question's length, 0 at the finish.
@@ -235,12 +233,8 @@ pub extern "C" fn lo_rebuilder_call(
     let st = layout::read_rebuilder(state);
     let rows = sheet.len() / ROW_BYTES;
     let out = ends::rebuilder_call(st, y, bits, msg, rows, string, question);
-    let answer = out.answer;
-    let next = out.state;
-    let change = out.sheet;
-    match answer {
-        RebuilderAnswer::Refused(e) => packing::pack_refusal(e),
-        RebuilderAnswer::Finished => keep(state, sheet, next, change, 0),
-        RebuilderAnswer::Asks(size) => keep(state, sheet, next, change, size),
+    match out.answer {
+        Err(e) => packing::pack_refusal(e),
+        Ok(next) => keep(state, sheet, out.state, out.sheet, next.unwrap_or(0)),
     }
 }

@@ -1,65 +1,107 @@
 // Results as one number: value * 256 + refusal.
-ghost use Rattle.std.specs.Prelude.{◌≡◌, List, ℕ, ◌≤◌};
-ghost use Rattle.codes.specs.Entries.{said_value, said_repair};
-ghost use Rattle.codes.specs.Markers.{said_build};
-ghost use Rattle.ends.specs.AnchorSearch.{said_anchor};
+ghost use Rattle.std.specs.Prelude.{◌≡◌, Ok, ⊤, ℕ, ◌*◌, ◌≤◌};
 ghost use Rattle.strings.specs.Refusals.{refusal_number};
-ghost use Rattle.strings.specs.Results.{refusal, mapped};
-ghost use Rattle.cabi.specs.Packing.{packed, done_number, place_number};
+ghost use Rattle.strings.specs.Results.{refusal, mapped, said};
+ghost use Rattle.cabi.specs.Packing.{packed, value_unit, done_number, place_value, place_fits};
 
-use codes::{BuildAnswer, NumberAnswer, RepairAnswer};
-use ends::AnchorAnswer;
 use strings::Refusal;
 
 // What a value counts in a result (specs/Packing.antt: value_unit).
-pub const VALUE_UNIT: u64 = 256;
+const VALUE_UNIT: u64 = 256;
+
+// A value that a call gives, as a number of at most 32 bits. Of places and lengths only those that fit have one.
+pub trait Value {
+    ghost number: { Self → ℕ };
+
+    ghost fits: { Self → Type 0 };
+
+    fn number(self) -> u32
+        requires { fits self }
+        ensures { result ≡ number self };
+}
+
+// A syndrome, a hash or a count.
+impl Value for u32 {
+    ghost number = { λ v. v };
+
+    ghost fits = { λ v. ⊤ };
+
+    fn number(self) -> u32 {
+        self
+    }
+}
+
+// Whether a repair was done, or a marker read.
+impl Value for bool {
+    ghost number = { done_number };
+
+    ghost fits = { λ v. ⊤ };
+
+    fn number(self) -> u32 {
+        u32::from(self)
+    }
+}
+
+// That a marker was built.
+impl Value for () {
+    ghost number = { λ v. 1 };
+
+    ghost fits = { λ v. ⊤ };
+
+    fn number(self) -> u32 {
+        1
+    }
+}
+
+// The length of a message.
+impl Value for usize {
+    ghost number = { λ v. v };
+
+    ghost fits = { λ v. v ≤ 65536 };
+
+    fn number(self) -> u32 {
+        self as u32
+    }
+}
+
+// A place plus 1, or 0 for none.
+impl Value for Option<usize> {
+    ghost number = { place_value };
+
+    ghost fits = { place_fits };
+
+    fn number(self) -> u32 {
+        match self {
+            Some(r) => (r as u32) + 1,
+            None => 0,
+        }
+    }
+}
+
+// A value.
+pub fn pack_value<T: Value>(v: T) -> u64
+    requires { T.fits v }
+    ensures { result ≡ T.number v * value_unit }
+{
+    u64::from(v.number()) * VALUE_UNIT
+}
 
 // A refusal.
+#[tactic(auto, unfolding(crate::specs::Packing::packed))]
 pub fn pack_refusal(e: Refusal) -> u64
     ensures { result ≡ packed (refusal (refusal_number e)) }
 {
-    strings::refusal_number(e) as u64
+    u64::from(u32::from(e))
 }
 
-// A number or a refusal.
-pub fn pack_number(a: NumberAnswer) -> u64
-    ensures { result ≡ packed (said_value a) }
+// A value or a refusal.
+#[tactic(auto, unfolding(crate::specs::Packing::packed))]
+pub fn pack<T: Value>(a: Result<T, Refusal>) -> u64
+    requires { (v : T) → a ≡ Ok v → T.fits v }
+    ensures { result ≡ packed (mapped T.number (said a)) }
 {
     match a {
-        NumberAnswer::Value(v) => (v as u64) * VALUE_UNIT,
-        NumberAnswer::Refused(e) => pack_refusal(e),
-    }
-}
-
-// Whether a repair was done, or a marker read, or a refusal.
-pub fn pack_repair(a: RepairAnswer) -> u64
-    ensures { (out : List ℕ) → result ≡ packed (mapped done_number (said_repair a out).answer) }
-{
-    match a {
-        RepairAnswer::Done => VALUE_UNIT,
-        RepairAnswer::Nothing => 0,
-        RepairAnswer::Refused(e) => pack_refusal(e),
-    }
-}
-
-// That a marker was built, or a refusal.
-pub fn pack_build(a: BuildAnswer) -> u64
-    ensures { (out : List ℕ) → result ≡ packed (mapped done_number (said_build a out).answer) }
-{
-    match a {
-        BuildAnswer::Built => VALUE_UNIT,
-        BuildAnswer::Refused(e) => pack_refusal(e),
-    }
-}
-
-// A place, none or a refusal. A place that the search gave is at most 65,536, so that the result fits; this is what it requires.
-pub fn pack_place(a: AnchorAnswer) -> u64
-    requires { packed (mapped place_number (said_anchor a)) ≤ 16777472 }
-    ensures { result ≡ packed (mapped place_number (said_anchor a)) }
-{
-    match a {
-        AnchorAnswer::Placed(r) => ((r + 1) as u64) * VALUE_UNIT,
-        AnchorAnswer::NoPlace => 0,
-        AnchorAnswer::Refused(e) => pack_refusal(e),
+        Ok(v) => pack_value(v),
+        Err(e) => pack_refusal(e),
     }
 }

@@ -1,19 +1,15 @@
 -- What a host's calls answer and leave behind (01, "Syndrome and repair", "Hash", "Why a call is turned down"), and what each case of the code's enums says.
-use Rattle.std.specs.Prelude.{Bool, true, false, ◌&&◌, ◌||◌, List, ℕ, ◌+◌, length, eqb, leb}
+use Rattle.std.specs.Prelude.{Result as CodeResult, Bool, true, false, ◌&&◌, ◌||◌, List, ℕ, ◌+◌, length, eqb, leb}
 use Rattle.std.proofs.Math.Option.{Option, none, some}
 use Rattle.strings.specs.Bits.{max_bits, range, bytes_for, pack, at_front}
 use Rattle.strings.specs.StringRule.{string_rule}
 use Rattle.strings.specs.SettingLimits.{hash_limits, key_limits}
-use Rattle.strings.specs.Refusals.{refusal_number}
-use Rattle.strings.specs.Results.{Result, refusal, value, unless}
+use Rattle.strings.specs.Results.{Result, refusal, value, unless, said}
+use Rattle.strings.specs.declared.Refusal.{Refusal}
 use Rattle.strings.specs.declared.Refusal.TheVariants.{BadSetting, BadString, OutOfRange, BufferTooShort}
 use Rattle.codes.specs.Syndrome.{syndrome}
 use Rattle.codes.specs.Repair.{repair_to}
 use Rattle.codes.specs.Hash.{hash}
-use Rattle.codes.specs.declared.entries.NumberAnswer.{NumberAnswer}
-use Rattle.codes.specs.declared.entries.NumberAnswer.TheVariants.{Value, Refused}
-use Rattle.codes.specs.declared.entries.RepairAnswer.{RepairAnswer}
-use Rattle.codes.specs.declared.entries.RepairAnswer.TheVariants.{Done, Nothing, Refused as RepairRefused}
 
 -- ---- the syndrome
 unfoldable pub syndrome_call : List ℕ → ℕ → Result ℕ
@@ -29,11 +25,6 @@ hash_call s bits h key =
     unless (hash_settings h key) BadSetting (
     unless (string_rule s bits) BadString (
     value (hash h key (range s 0 bits))))
-
--- what the code's answer says of a number
-abbrev pub said_value : NumberAnswer → Result ℕ
-said_value (Value v) = value v
-said_value (Refused e) = refusal (refusal_number e)
 
 -- ---- the repair of a string of `bits` bits to one of n bits that has the syndrome a, where the buffer has `capacity` bytes
 -- lengths one apart, a result that is no longer than a string, a from 0 to n
@@ -62,8 +53,6 @@ repair_left out (value (some x)) = record { answer = value true; buffer = at_fro
 abbrev pub repair_outcome : List ℕ → (bits n a : ℕ) → List ℕ → RepairLeft
 repair_outcome s bits n a out = repair_left out (repair_call s bits n a (length out))
 
--- what the code's answer says, and the buffer
-abbrev pub said_repair : RepairAnswer → List ℕ → RepairLeft
-said_repair Done out = record { answer = value true; buffer = out }
-said_repair Nothing out = record { answer = value false; buffer = out }
-said_repair (RepairRefused e) out = record { answer = refusal (refusal_number e); buffer = out }
+-- what the code's answer says, true for done and false for none, and the buffer
+abbrev pub said_repair : CodeResult Bool Refusal → List ℕ → RepairLeft
+said_repair r out = record { answer = said r; buffer = out }

@@ -1,11 +1,10 @@
 -- 02, CR 12: every string of n bits that has the syndrome a, as numbers with the first bit highest, rising; what the call answers and leaves behind.
-use Rattle.std.specs.Prelude.{Bool, true, false, ◌&&◌, List, [], ◌∷◌, ◌++◌, map, ℕ, zero, suc, ◌+◌, ◌/◌, ◌%◌, ◌^◌, ◌<◌, length, eqb, leb}
+use Rattle.std.specs.Prelude.{Result as CodeResult, Bool, true, false, ◌&&◌, List, [], ◌∷◌, ◌++◌, map, ℕ, zero, suc, ◌+◌, ◌/◌, ◌%◌, ◌^◌, ◌<◌, length, eqb, leb}
 use Rattle.strings.specs.Bits.{at_front}
-use Rattle.strings.specs.Results.{Result, refusal, value, unless}
+use Rattle.strings.specs.Results.{Result, refusal, value, unless, said}
+use Rattle.strings.specs.declared.Refusal.{Refusal}
 use Rattle.strings.specs.declared.Refusal.TheVariants.{OutOfRange, ListTooShort}
 use Rattle.codes.specs.Counting.{of_syndrome}
-use Rattle.codes.specs.Entries.{said_value}
-use Rattle.codes.specs.declared.entries.NumberAnswer.{NumberAnswer}
 
 -- the number of a string: the first bit is the highest digit
 unfoldable pub number_of : List Bool → ℕ
@@ -54,5 +53,5 @@ abbrev pub list_outcome : (n a : ℕ) → List ℕ → ListLeft
 list_outcome n a out = list_left out (list_call n a (length out))
 
 -- what the code's answer says, and the buffer
-abbrev pub said_list : NumberAnswer → List ℕ → ListLeft
-said_list a out = record { answer = said_value a; buffer = out }
+abbrev pub said_list : CodeResult ℕ Refusal → List ℕ → ListLeft
+said_list a out = record { answer = said a; buffer = out }

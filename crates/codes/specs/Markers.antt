@@ -1,17 +1,15 @@
 -- 02, CR 13: words of n bits with a wanted syndrome that carry a message, and their reading; what the calls answer and leave behind. Places count from 1.
-use Rattle.std.specs.Prelude.{◌≡◌, Bool, true, false, ◌&&◌, cond, List, [], ◌∷◌, ℕ, zero, suc, ◌+◌, ◌-◌, ◌*◌, ◌/◌, ◌%◌, ◌^◌, length, get_or, drop, eqb, leb}
+use Rattle.std.specs.Prelude.{Result as CodeResult, ⊤, ◌≡◌, Bool, true, false, ◌&&◌, cond, List, [], ◌∷◌, ℕ, zero, suc, ◌+◌, ◌-◌, ◌*◌, ◌/◌, ◌%◌, ◌^◌, length, get_or, drop, eqb, leb}
 use Rattle.std.proofs.Math.Option.{Option, none, some}
 use mir.Val.{bool_byte}
 use Rattle.strings.specs.Bits.{range, bytes_for}
 use Rattle.strings.specs.StringRule.{string_rule}
-use Rattle.strings.specs.Refusals.{refusal_number}
-use Rattle.strings.specs.Results.{Result, refusal, value, unless, mapped}
+use Rattle.strings.specs.Results.{Result, value, unless, mapped, said}
+use Rattle.strings.specs.declared.Refusal.{Refusal}
 use Rattle.strings.specs.declared.Refusal.TheVariants.{BadString, OutOfRange, BufferTooShort, MessageLength}
 use Rattle.codes.specs.Syndrome.{weighted_sum, syndrome}
 use Rattle.codes.specs.Repair.{Deletion, repair_to}
 use Rattle.codes.specs.Entries.{RepairLeft, repair_left}
-use Rattle.codes.specs.declared.markers.BuildAnswer.{BuildAnswer}
-use Rattle.codes.specs.declared.markers.BuildAnswer.TheVariants.{Built, Refused}
 
 -- ---- the places of a word
 -- whether k is 2 ^ i for some i below j; whether k is a power of two
@@ -120,7 +118,6 @@ build_outcome s bits n a out = repair_left out (mapped some (build_call s bits n
 abbrev pub read_outcome : List ℕ → (bits n a : ℕ) → List ℕ → RepairLeft
 read_outcome s bits n a out = repair_left out (read_call s bits n a (length out))
 
--- what the builder's answer says, and the buffer
-abbrev pub said_build : BuildAnswer → List ℕ → RepairLeft
-said_build Built out = record { answer = value true; buffer = out }
-said_build (Refused e) out = record { answer = refusal (refusal_number e); buffer = out }
+-- what the builder's answer says, true for built, and the buffer
+abbrev pub said_build : CodeResult ⊤ Refusal → List ℕ → RepairLeft
+said_build r out = record { answer = mapped (λ done. true) (said r); buffer = out }

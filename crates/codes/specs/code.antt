@@ -3,6 +3,7 @@ pub mod Place
 pub mod Sums
 pub mod Edits
 pub mod Weaving
+pub mod Runs
 pub mod HashForms
 pub mod Strides
 pub mod Linking

@@ -3,6 +3,7 @@ pub mod SyndromeLaws
 pub mod SumLaws
 pub mod RepairLaws
 pub mod ColumnLaws
+pub mod RunLaws
 pub mod PlaceLaws
 pub mod EditLaws
 pub mod HashLaws

@@ -1,17 +1,22 @@
-// The columns of a range: column j of b takes every b-th bit from bit j on, j from 0 (02, CR 1). A run of b bits lost or gained is one bit
-// lost or gained in each column, so that each is repaired by the repair of 01 with its own syndrome.
-ghost use Rattle.std.specs.Prelude.{◌≡◌, ◌*◌, ◌≤◌, ◌<◌, length, take};
-ghost use Rattle.strings.specs.Bits.{max_bits, range, byte_bits, write_bits, Part};
+// The columns of a range: column j of b takes every b-th bit from bit j on, j from 0. A run of b bits lost or gained is one bit lost or
+// gained in each column, so that each is repaired by the repair of one bit with its own syndrome.
+ghost use Rattle.std.specs.Prelude.{◌≡◌, true, ◌*◌, ◌≤◌, ◌<◌, length, take};
+ghost use Rattle.strings.specs.Bits.{max_bits, byte_bits, write_bits, Part};
+ghost use Rattle.strings.specs.Ranges.{bits};
 ghost use Rattle.codes.specs.Syndrome.{syndrome};
-ghost use Rattle.codes.specs.Columns.{column, column_length, RunApart, repair_run};
+ghost use Rattle.codes.specs.Columns.{column, column_length, repair_run};
 ghost use Rattle.codes.specs.Listing.{number_of};
 ghost use Rattle.codes.specs.Trials.{agreeing, tried_at};
 ghost use Rattle.codes.specs.code.Edits.{Fits};
 ghost use Rattle.codes.specs.code.Strides.{strided, StridedPart};
-ghost use Rattle.codes.specs.code.Weaving.{woven, Placed, Located, ColumnFound, found_run};
+ghost use Rattle.codes.specs.code.Weaving.{Located, ColumnFound};
+ghost use Rattle.codes.specs.code.Runs.{is_found, place_found, bit_found, run_repaired, RepairPlaced};
 
-use crate::edits::{Edit, Repair};
-use crate::weaving::RunRepair;
+use crate::edits::Edit;
+use crate::rows::HashKey;
+use crate::shape::{Column, Run};
+use crate::weaving::{ColumnRepair, Woven};
+use strings::BitRange;
 
 // The four bits p, p + b, .. of s as a number, the first as its highest digit. There is no branch, because the bits of a string are hard to
 // foretell.
@@ -41,85 +46,60 @@ fn copy_groups(s: &[u8], p: usize, b: usize, count: usize, to: &mut [u8])
     ensures { to.new ≡ write_bits to.old 0 (strided s.now p b (8 * count)) }
 {
     let mut q = p;
-    let mut i: usize = 0;
-    while i < count {
+    for i in 0..count {
         to[i] = eight_apart(s, q, b);
         q += 8 * b;
-        i += 1;
     }
 }
 
 // Every b-th bit of the range from bit j on is written into `to` from place `at` on, one by one.
-fn copy_singly(s: &[u8], start: usize, len: usize, b: usize, j: usize, to: &mut [u8], at: usize)
-    requires part { Part s.now start len }
+fn copy_singly(s: BitRange, b: usize, j: usize, to: &mut [u8], at: usize)
     requires le_b { (1 ≤ b) × (b ≤ 32) }
-    requires part_2 { Part to.old at (column_length b j len) }
-    ensures { to.new ≡ write_bits to.old at (column b j (range s.now start len)) }
+    requires part { Part to.old at (column_length b j s.len) }
+    ensures { to.new ≡ write_bits to.old at (column b j (bits s.entry)) }
 {
+    // The place k is counted beside i, since `enumerate` over `step_by` leaves the bounds of both unproved.
     let mut k = at;
-    let mut i = j;
-    while i < len {
-        let x = strings::get_bit(s, start + i);
-        strings::set_bit(to, k, x);
+    for i in (j..s.len).step_by(b) {
+        strings::set_bit(to, k, s.get(i));
         k += 1;
-        i += b;
     }
 }
 
-// Column j of the range becomes the first bits of `to`: whole bytes as long as there are eight bits more, and the bits that are left.
-fn copy_column(s: &[u8], start: usize, len: usize, b: usize, j: usize, to: &mut [u8])
-    requires part { Part s.now start len }
-    requires j_lt_b { j < b }
-    requires b_bound { b ≤ 32 }
-    requires part_2 { Part to.old 0 (column_length b j len) }
-    ensures { to.new ≡ write_bits to.old 0 (column b j (range s.now start len)) }
+// The column becomes the first bits of `to`: whole bytes as long as there are eight bits more, and the bits that are left.
+fn copy_column(c: Column, to: &mut [u8])
+    requires { Part to.old 0 (column_length c.b c.j c.piece.len) }
+    ensures { to.new ≡ write_bits to.old 0 (column c.entry.b c.entry.j (bits c.entry.piece)) }
 {
-    let bytes = crate::shape::column_length(b, j, len) / 8;
+    let s = c.piece;
+    let bytes = crate::shape::column_length(c.b, c.j, s.len) / 8;
     let done = 8 * bytes;
-    copy_groups(s, start + j, b, bytes, to);
-    copy_singly(s, start, len, b, j + done * b, to, done);
+    copy_groups(s.bytes, s.start + c.j, c.b, bytes, to);
+    copy_singly(s, c.b, c.j + done * c.b, to, done);
 }
 
-// The syndrome of column j of the range. The column is copied to the front of `bits`.
-fn syndrome_in_copy(
-    s: &[u8],
-    start: usize,
-    len: usize,
-    b: usize,
-    j: usize,
-    bits: &mut [u8],
-) -> usize
-    requires part { Part s.now start len }
-    requires le_b { (2 ≤ b) × (b ≤ 32) }
-    requires j_lt_b { j < b }
-    requires part_2 { Part bits.old 0 (column_length b j len) }
-    ensures { result ≡ syndrome (column b j (range s.now start len)) }
+// The syndrome of the column. It is copied to the front of `to`.
+fn syndrome_in_copy(c: Column, to: &mut [u8]) -> usize
+    requires { Part to.old 0 (column_length c.b c.j c.piece.len) }
+    ensures { result ≡ syndrome (column c.entry.b c.entry.j (bits c.entry.piece)) }
 {
-    copy_column(s, start, len, b, j, bits);
-    crate::sums::syndrome_of(bits, 0, crate::shape::column_length(b, j, len))
+    copy_column(c, to);
+    let len = crate::shape::column_length(c.b, c.j, c.piece.len);
+    crate::sums::syndrome_of(BitRange {
+        bytes: to,
+        start: 0,
+        len,
+    })
 }
 
 // The same, in a buffer of its own. Most columns are short, and a short buffer is made in less time.
-pub fn syndrome_of_column(s: &[u8], start: usize, len: usize, b: usize, j: usize) -> usize
-    requires part { Part s.now start len }
-    requires le_b { (2 ≤ b) × (b ≤ 32) }
-    requires j_lt_b { j < b }
-    ensures { result ≡ syndrome (column b j (range s.now start len)) }
+pub fn syndrome_of_column(c: Column) -> usize
+    ensures { result ≡ syndrome (column c.entry.b c.entry.j (bits c.entry.piece)) }
 {
-    if crate::shape::column_length(b, j, len) <= 512 {
-        let mut few = [0u8; 64];
-        return syndrome_in_copy(s, start, len, b, j, &mut few);
+    if crate::shape::column_length(c.b, c.j, c.piece.len) <= 512 {
+        return syndrome_in_copy(c, &mut [0u8; 64]);
     }
-    let mut bits = [0u8; 4096];
-    syndrome_in_copy(s, start, len, b, j, &mut bits)
-}
-
-// The repair of one column: the place of its edit in the string, and the bit that is put in, if one is.
-#[derive(Clone, Copy)]
-struct ColumnRepair {
-    found: bool,
-    place: usize,
-    bit: bool,
+    syndrome_in_copy(c, &mut [0u8; 4096])
 }
 
 // An edit of column j, which has m bits.
@@ -128,142 +108,83 @@ fn column_repair(e: Edit, m: usize, b: usize, j: usize) -> ColumnRepair
     requires m_le_max_bits { m ≤ max_bits }
     requires j_lt_b { j < b }
     requires b_bound { b ≤ 32 }
-    ensures { Located e b j result.found result.place result.bit }
+    ensures { Located e b j true result.place result.bit }
 {
     match e {
         Edit::Put(k, x) => ColumnRepair {
-            found: true,
             place: j + k * b,
             bit: x,
         },
         Edit::Take(k) => ColumnRepair {
-            found: true,
             place: j + k * b,
             bit: false,
         },
     }
 }
 
-// The repair of column j of the range with the syndrome a. The column is copied to the front of `bits`.
-fn find_in_copy(
-    s: &[u8],
-    start: usize,
-    len: usize,
-    n: usize,
-    b: usize,
-    j: usize,
-    a: usize,
-    bits: &mut [u8],
-) -> ColumnRepair
-    requires part { Part s.now start len }
-    requires n_le_max_bits { n ≤ max_bits }
-    requires run_apart { RunApart b len n }
-    requires le_b { (2 ≤ b) × (b ≤ 32) }
-    requires j_lt_b { j < b }
-    requires part_2 { Part bits.old 0 (column_length b j len) }
-    ensures { ColumnFound b n a (range s.now start len) j result.found result.place result.bit }
+// The repair of column j with the syndrome a. The column is copied to the front of `to`.
+fn find_in_copy(run: Run, j: usize, a: usize, to: &mut [u8]) -> Option<ColumnRepair>
+    requires j_lt_b { j < run.b }
+    requires part { Part to.old 0 (column_length run.b j run.piece.len) }
+    ensures { ColumnFound run.entry.b run.entry.n a (bits run.entry.piece) j (is_found result) (place_found result) (bit_found result) }
 {
-    copy_column(s, start, len, b, j, bits);
-    let m = crate::shape::column_length(b, j, len);
-    match crate::places::find_repair(bits, 0, m, crate::shape::column_length(b, j, n), a) {
-        Repair::Nothing => ColumnRepair {
-            found: false,
-            place: 0,
-            bit: false,
-        },
-        Repair::Found(e) => column_repair(e, m, b, j),
-    }
+    let Run { piece, n, b } = run;
+    copy_column(Column { piece, b, j }, to);
+    let len = crate::shape::column_length(b, j, piece.len);
+    let copy = BitRange {
+        bytes: to,
+        start: 0,
+        len,
+    };
+    let e = crate::places::find_repair(copy, crate::shape::column_length(b, j, n), a)?;
+    Some(column_repair(e, len, b, j))
 }
 
-// The same, in a buffer of its own. Most columns are short, and a short buffer is made in less time.
-fn find_column(
-    s: &[u8],
-    start: usize,
-    len: usize,
-    n: usize,
-    b: usize,
-    j: usize,
-    a: usize,
-) -> ColumnRepair
-    requires part { Part s.now start len }
-    requires n_le_max_bits { n ≤ max_bits }
-    requires run_apart { RunApart b len n }
-    requires le_b { (2 ≤ b) × (b ≤ 32) }
-    requires j_lt_b { j < b }
-    ensures { ColumnFound b n a (range s.now start len) j result.found result.place result.bit }
+// The same, in a buffer of its own. Most columns are short, and a short buffer is made in less time. That a column's syndrome and its repair
+// choose the buffer alike is left: one function for both would take a closure over a lent buffer, which is no plainer.
+fn find_column(run: Run, j: usize, a: usize) -> Option<ColumnRepair>
+    requires { j < run.b }
+    ensures { ColumnFound run.entry.b run.entry.n a (bits run.entry.piece) j (is_found result) (place_found result) (bit_found result) }
 {
-    if crate::shape::column_length(b, j, len) <= 512 {
-        let mut few = [0u8; 64];
-        return find_in_copy(s, start, len, n, b, j, a, &mut few);
+    if crate::shape::column_length(run.b, j, run.piece.len) <= 512 {
+        return find_in_copy(run, j, a, &mut [0u8; 64]);
     }
-    let mut bits = [0u8; 4096];
-    find_in_copy(s, start, len, n, b, j, a, &mut bits)
+    find_in_copy(run, j, a, &mut [0u8; 4096])
 }
 
-// The repairs of the b columns of the range, with the first b of the syndromes a.
-fn find_columns(s: &[u8], start: usize, len: usize, n: usize, b: usize, a: [u32; 32]) -> RunRepair
-    requires part { Part s.now start len }
-    requires n_le_max_bits { n ≤ max_bits }
-    requires run_apart { RunApart b len n }
-    requires le_b { (2 ≤ b) × (b ≤ 32) }
-    ensures bits_value { found_run result.all (woven (range s.now start len) n b result.places result.bits)
-        ≡ repair_run b n (take b a) (range s.now start len) }
-    ensures placed { Placed b len result.places }
+// The repairs of all columns, with the first b of the syndromes a, if every column has one.
+fn find_columns(run: Run, a: [u32; 32]) -> Option<[ColumnRepair; 32]>
+    ensures bits_value { run_repaired (bits run.entry.piece) run.entry.n run.entry.b result
+        ≡ repair_run run.entry.b run.entry.n (take run.entry.b a) (bits run.entry.piece) }
+    ensures placed { RepairPlaced run.entry.b run.entry.piece.len result }
 {
-    let mut places = [0usize; 32];
-    let mut bits = [false; 32];
-    let mut j: usize = 0;
-    while j < b {
-        let one = find_column(s, start, len, n, b, j, a[j] as usize);
-        if !one.found {
-            return RunRepair {
-                all: false,
-                places: places,
-                bits: bits,
-            };
-        }
-        places[j] = one.place;
-        bits[j] = one.bit;
-        j += 1;
+    let unfound = ColumnRepair {
+        place: 0,
+        bit: false,
+    };
+    let mut repairs = [unfound; 32];
+    for j in 0..run.b {
+        let one = find_column(run, j, a[j] as usize)?;
+        repairs[j] = one;
     }
-    RunRepair {
-        all: true,
-        places: places,
-        bits: bits,
-    }
+    Some(repairs)
 }
 
-// The repair of all columns of the range, with the first b of the syndromes a, to n bits, b more or b less, if every column has one. It is
-// written into `to` from place `at` on only if it has the hash v.
-pub fn try_run(
-    s: &[u8],
-    start: usize,
-    len: usize,
-    n: usize,
-    b: usize,
-    a: [u32; 32],
-    v: u32,
-    key: u32,
-    h: u32,
-    to: &mut [u8],
-    at: usize,
-) -> bool
-    requires part { Part s.now start len }
-    requires part_2 { Part to.old at n }
-    requires run_apart { RunApart b len n }
-    requires le_b { (2 ≤ b) × (b ≤ 32) }
-    requires h_bound { h ≤ 32 }
+// The repair of all columns, with the first b of the syndromes a, to n bits, if every column has one. It is written into `to` from place
+// `at` on only if it has the hash v.
+pub fn try_run(run: Run, a: [u32; 32], v: u32, k: HashKey, to: &mut [u8], at: usize) -> bool
+    requires { Part to.old at run.n }
     ensures { record { settled = result; buffer = to.new }
-        ≡ tried_at to.old at (agreeing h key v (repair_run b n (take b a) (range s.now start len))) }
+        ≡ tried_at to.old at (agreeing k.h k.key v (repair_run run.entry.b run.entry.n (take run.entry.b a) (bits run.entry.piece))) }
 {
-    let run = find_columns(s, start, len, n, b, a);
-    if !run.all {
+    let Some(repairs) = find_columns(run, a) else {
         return false;
-    }
-    let hashed = crate::weaving::hash_woven(s, start, len, n, b, run, key, h);
+    };
+    let woven = Woven { run, repairs };
+    let hashed = woven.hash(k);
     if hashed != v {
         return false;
     }
-    crate::weaving::copy_woven(s, start, len, n, b, run, to, at);
+    woven.copy(to, at);
     true
 }

@@ -1,95 +1,87 @@
 // What a host calls, on any bytes and numbers.
-ghost use Rattle.std.specs.Prelude.{◌≡◌, ◌≤◌, length};
+ghost use Rattle.std.specs.Prelude.{◌≡◌, ◌≤◌};
 ghost use Rattle.strings.specs.Bits.{max_bits};
-ghost use Rattle.codes.specs.Entries.{said_value, said_repair, repair_outcome, syndrome_call, hash_call, repair_range, hash_settings};
+ghost use Rattle.strings.specs.Results.{said};
+ghost use Rattle.codes.specs.Entries.{said_repair, repair_outcome, syndrome_call, hash_call, repair_range, hash_settings};
 
-use crate::edits::Repair;
-use strings::Refusal;
-
-// A number, or why the call is turned down.
-#[derive(Clone, Copy)]
-pub enum NumberAnswer {
-    Value(u32),
-    Refused(Refusal),
-}
-
-#[derive(Clone, Copy)]
-pub enum RepairAnswer {
-    // The first bytes of the buffer are the repaired string; for a received marker, its message.
-    Done,
-    // No deletion gives the syndrome; for a received marker, the builder makes no such word. The buffer is as it was.
-    Nothing,
-    // The call is turned down; the buffer is as it was.
-    Refused(Refusal),
-}
+use crate::rows::HashKey;
+use strings::{BitRange, Refusal};
 
 // The syndrome of a string.
-pub fn syndrome(s: &[u8], bits: usize) -> NumberAnswer
-    ensures { said_value result ≡ syndrome_call s.now bits }
+#[tactic(auto, using(crate::specs::laws::EntryLaws::whole_part), unfolding(crate::specs::Entries::syndrome_call))]
+pub fn syndrome(s: &[u8], bits: usize) -> Result<u32, Refusal>
+    ensures { said result ≡ syndrome_call s.now bits }
 {
     if !strings::keeps_string_rule(s, bits) {
-        return NumberAnswer::Refused(Refusal::BadString);
+        return Err(Refusal::BadString);
     }
-    let a = crate::sums::syndrome_of(s, 0, bits);
-    NumberAnswer::Value(a as u32)
+    let whole = BitRange {
+        bytes: s,
+        start: 0,
+        len: bits,
+    };
+    let a = crate::sums::syndrome_of(whole);
+    Ok(a as u32)
 }
 
 // Whether h and the key are within the settings' limits.
+#[tactic(auto, unfolding(crate::specs::Entries::hash_settings))]
 fn keeps_hash_settings(h: u32, key: u32) -> bool
     ensures { result ≡ hash_settings h key }
 {
-    strings::both(strings::is_hash_width(h), strings::is_key(key))
+    strings::is_hash_width(h) && strings::is_key(key)
 }
 
 // The hash of a string.
-pub fn hash(s: &[u8], bits: usize, h: u32, key: u32) -> NumberAnswer
-    ensures { said_value result ≡ hash_call s.now bits h key }
+#[tactic(auto, using(crate::specs::laws::EntryLaws::whole_part, crate::specs::laws::EntryLaws::hash_width), unfolding(crate::specs::Entries::hash_call))]
+pub fn hash(s: &[u8], bits: usize, h: u32, key: u32) -> Result<u32, Refusal>
+    ensures { said result ≡ hash_call s.now bits h key }
 {
     if !keeps_hash_settings(h, key) {
-        return NumberAnswer::Refused(Refusal::BadSetting);
+        return Err(Refusal::BadSetting);
     }
     if !strings::keeps_string_rule(s, bits) {
-        return NumberAnswer::Refused(Refusal::BadString);
+        return Err(Refusal::BadString);
     }
-    NumberAnswer::Value(crate::rows::hash_of(s, 0, bits, key, h))
+    Ok(HashKey { key, h }.hash(BitRange {
+        bytes: s,
+        start: 0,
+        len: bits,
+    }))
 }
 
 // Whether a string of `bits` bits can be asked to become one of n bits with the syndrome a.
+#[tactic(auto, unfolding(crate::specs::Entries::repair_range))]
 fn keeps_repair_range(bits: usize, n: usize, a: usize) -> bool
     requires { bits ≤ max_bits }
     ensures { result ≡ repair_range bits n a }
 {
-    if strings::MAX_BITS < n {
-        return false;
-    }
-    if n < a {
-        return false;
-    }
-    if bits + 1 == n {
-        return true;
-    }
-    bits == n + 1
+    n <= strings::MAX_BITS && a <= n && (bits + 1 == n || bits == n + 1)
 }
 
-// The repair of a string of `bits` bits to one of n bits, one more or one less, that has the syndrome a.
-pub fn repair(s: &[u8], bits: usize, n: usize, a: usize, out: &mut [u8]) -> RepairAnswer
+// The repair of a string of `bits` bits to one of n bits, one more or one less, that has the syndrome a. True: the first bytes of `out` are
+// the repaired string. False: no deletion gives the syndrome. Then, and where the call is turned down, `out` is as it was.
+#[tactic(auto, using(crate::specs::laws::EntryLaws::whole_part, crate::specs::laws::EntryLaws::repair_few), unfolding(crate::specs::Entries::repair_call))]
+pub fn repair(s: &[u8], bits: usize, n: usize, a: usize, out: &mut [u8]) -> Result<bool, Refusal>
     ensures { said_repair result out.new ≡ repair_outcome s.now bits n a out.old }
 {
     if !strings::keeps_string_rule(s, bits) {
-        return RepairAnswer::Refused(Refusal::BadString);
+        return Err(Refusal::BadString);
     }
     if !keeps_repair_range(bits, n, a) {
-        return RepairAnswer::Refused(Refusal::OutOfRange);
+        return Err(Refusal::OutOfRange);
     }
     if out.len() < (n + 7) / 8 {
-        return RepairAnswer::Refused(Refusal::BufferTooShort);
+        return Err(Refusal::BufferTooShort);
     }
-    let found = crate::places::find_repair(s, 0, bits, n, a);
-    match found {
-        Repair::Nothing => RepairAnswer::Nothing,
-        Repair::Found(e) => {
-            crate::edits::pack_edited(s, 0, bits, e, n, out);
-            RepairAnswer::Done
-        }
-    }
+    let whole = BitRange {
+        bytes: s,
+        start: 0,
+        len: bits,
+    };
+    let Some(e) = crate::places::find_repair(whole, n, a) else {
+        return Ok(false);
+    };
+    crate::edits::pack_edited(whole, e, n, out);
+    Ok(true)
 }

@@ -1,10 +1,14 @@
 // The xorshift rows and the hash of a range. Rows are stepped from bit to bit; none is stored.
 ghost use Rattle.std.specs.Prelude.{◌≡◌, [], ◌∷◌, ◌*◌, ◌%◌, ◌^◌, ◌≤◌};
-ghost use Rattle.strings.specs.Bits.{range, Part, byte_bits};
+ghost use Rattle.strings.specs.Bits.{range, byte_bits};
+ghost use Rattle.strings.specs.Ranges.{bits};
 ghost use Rattle.codes.specs.Hash.{xorshift as xorshift_of, hash};
 ghost use Rattle.codes.specs.code.HashForms.{Went};
 
+use strings::BitRange;
+
 // One step.
+#[tactic(auto, unfolding(crate::specs::Hash::xorshift, crate::specs::Hash::xor_left, crate::specs::Hash::xor_right))]
 pub fn xorshift(v: u32) -> u32
     ensures { result ≡ xorshift_of v }
 {
@@ -13,120 +17,119 @@ pub fn xorshift(v: u32) -> u32
     b ^ (b << 5)
 }
 
-// The low h bits of v. A hash has at most 32, by the settings' limits.
-pub fn low_bits(v: u32, h: u32) -> u32
-    requires { h ≤ 32 }
-    ensures { result ≡ v % 2 ^ h }
-{
-    ((v as u64) % (1u64 << h)) as u32
+// The key of a hash, and its bit count, which is at most 32 by the settings' limits.
+#[derive(Clone, Copy, Debug, PartialEq, Eq)]
+pub struct HashKey {
+    pub key: u32,
+    pub h: u32,
+    ghost width: { h ≤ 32 },
 }
 
 // A hash under way: the whole rows of the set bits taken together, and the row of the last bit. It is cut once, at the end.
-#[derive(Clone, Copy)]
+#[derive(Clone, Copy, Debug, PartialEq, Eq)]
 pub struct Hashing {
     pub sum: u32,
     pub row: u32,
 }
 
-// One bit more.
-pub fn hash_bit(b: bool, sum: u32, row: u32) -> Hashing
-    ensures { Went sum row (b ∷ []) result.sum result.row }
-{
-    let next = xorshift(row);
-    if b {
-        return Hashing {
-            sum: sum ^ next,
+impl Hashing {
+    // One bit more.
+    #[tactic(auto, unfolding(crate::specs::code::HashForms::whole_hash, crate::specs::Hash::hash_row))]
+    pub fn bit(self, b: bool) -> Hashing
+        ensures { Went self.sum self.row (b ∷ []) result.sum result.row }
+    {
+        let next = xorshift(self.row);
+        if b {
+            return Hashing {
+                sum: self.sum ^ next,
+                row: next,
+            };
+        }
+        Hashing {
+            sum: self.sum,
             row: next,
-        };
+        }
     }
-    Hashing {
-        sum: sum,
-        row: next,
+
+    // Four bits more.
+    fn four(self, a: bool, b: bool, c: bool, d: bool) -> Hashing
+        ensures { Went self.sum self.row (a ∷ b ∷ c ∷ d ∷ []) result.sum result.row }
+    {
+        self.bit(a).bit(b).bit(c).bit(d)
+    }
+
+    // The eight bits of a byte more.
+    fn byte(self, v: u8) -> Hashing
+        ensures { Went self.sum self.row (byte_bits v) result.sum result.row }
+    {
+        let high = self.four(
+            (v >> 7) % 2 == 1,
+            (v >> 6) % 2 == 1,
+            (v >> 5) % 2 == 1,
+            (v >> 4) % 2 == 1,
+        );
+        high.four(
+            (v >> 3) % 2 == 1,
+            (v >> 2) % 2 == 1,
+            (v >> 1) % 2 == 1,
+            (v >> 0) % 2 == 1,
+        )
+    }
+
+    // The first 8 * count bits of a range more, by bytes.
+    fn over_bytes(self, s: BitRange, count: usize) -> Hashing
+        requires { 8 * count ≤ s.len }
+        ensures { Went self.sum self.row (range s.entry.bytes.now s.entry.start (8 * count)) result.sum result.row }
+    {
+        let mut all = self;
+        for i in 0..count {
+            all = all.byte(s.byte(8 * i));
+        }
+        all
+    }
+
+    // The bits of a range more, one by one.
+    fn over_bits(self, s: BitRange) -> Hashing
+        ensures { Went self.sum self.row (bits s.entry) result.sum result.row }
+    {
+        let mut all = self;
+        for i in 0..s.len {
+            all = all.bit(s.get(i));
+        }
+        all
+    }
+
+    // The bits of a range more: by bytes, and those that are left.
+    pub fn over(self, s: BitRange) -> Hashing
+        ensures { Went self.sum self.row (bits s.entry) result.sum result.row }
+    {
+        let count = s.len / 8;
+        self.over_bytes(s, count).over_bits(s.skip(8 * count))
     }
 }
 
-// Four bits more.
-fn hash_four(a: bool, b: bool, c: bool, d: bool, sum: u32, row: u32) -> Hashing
-    ensures { Went sum row (a ∷ b ∷ c ∷ d ∷ []) result.sum result.row }
-{
-    let one = hash_bit(a, sum, row);
-    let two = hash_bit(b, one.sum, one.row);
-    let three = hash_bit(c, two.sum, two.row);
-    hash_bit(d, three.sum, three.row)
-}
-
-// The eight bits of a byte more.
-fn hash_byte(v: u8, sum: u32, row: u32) -> Hashing
-    ensures { Went sum row (byte_bits v) result.sum result.row }
-{
-    let high = hash_four(
-        (v >> 7) % 2 == 1,
-        (v >> 6) % 2 == 1,
-        (v >> 5) % 2 == 1,
-        (v >> 4) % 2 == 1,
-        sum,
-        row,
-    );
-    hash_four(
-        (v >> 3) % 2 == 1,
-        (v >> 2) % 2 == 1,
-        (v >> 1) % 2 == 1,
-        (v >> 0) % 2 == 1,
-        high.sum,
-        high.row,
-    )
-}
-
-// The 8 * count bits from bit `start` on more, by bytes.
-fn hash_bytes(s: &[u8], start: usize, count: usize, sum: u32, row: u32) -> Hashing
-    requires { Part s.now start (8 * count) }
-    ensures { Went sum row (range s.now start (8 * count)) result.sum result.row }
-{
-    let mut acc = sum;
-    let mut v = row;
-    let mut i: usize = 0;
-    while i < count {
-        let next = hash_byte(strings::eight_bits(s, start + 8 * i), acc, v);
-        acc = next.sum;
-        v = next.row;
-        i += 1;
+impl HashKey {
+    // The hash of no bits yet.
+    pub(crate) fn start(self) -> Hashing
+        ensures { result ≡ record { sum = 0; row = self.key } }
+    {
+        Hashing {
+            sum: 0,
+            row: self.key,
+        }
     }
-    Hashing { sum: acc, row: v }
-}
 
-// The bits of a range more, one by one.
-fn hash_singly(s: &[u8], start: usize, len: usize, sum: u32, row: u32) -> Hashing
-    requires { Part s.now start len }
-    ensures { Went sum row (range s.now start len) result.sum result.row }
-{
-    let mut acc = sum;
-    let mut v = row;
-    let mut i: usize = 0;
-    while i < len {
-        let next = hash_bit(strings::get_bit(s, start + i), acc, v);
-        acc = next.sum;
-        v = next.row;
-        i += 1;
+    // The hash that is at its end: its low h bits.
+    pub(crate) fn cut(self, all: Hashing) -> u32
+        ensures { result ≡ all.sum % 2 ^ self.h }
+    {
+        ((all.sum as u64) % (1u64 << self.h)) as u32
     }
-    Hashing { sum: acc, row: v }
-}
 
-// The bits of a range more: by bytes, and those that are left.
-pub fn hash_on(s: &[u8], start: usize, len: usize, sum: u32, row: u32) -> Hashing
-    requires { Part s.now start len }
-    ensures { Went sum row (range s.now start len) result.sum result.row }
-{
-    let count = len / 8;
-    let bytes = hash_bytes(s, start, count, sum, row);
-    hash_singly(s, start + 8 * count, len - 8 * count, bytes.sum, bytes.row)
-}
-
-// The hash of a range.
-pub fn hash_of(s: &[u8], start: usize, len: usize, key: u32, h: u32) -> u32
-    requires part { Part s.now start len }
-    requires h_bound { h ≤ 32 }
-    ensures { result ≡ hash h key (range s.now start len) }
-{
-    let all = hash_on(s, start, len, 0, key);
-    low_bits(all.sum, h)
+    // The hash of a range.
+    pub fn hash(self, s: BitRange) -> u32
+        ensures { result ≡ hash self.h self.key (bits s.entry) }
+    {
+        self.cut(self.start().over(s))
+    }
 }

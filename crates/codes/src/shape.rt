@@ -1,7 +1,12 @@
 // Which bits of a string a column has: how many columns there can be, how long one is, and which one a bit is in. What is divided here is a
-// number of bits by the number of columns; sums and repairs divide by nothing but 2 and 8 (02, CR 2).
+// number of bits by the number of columns; sums and repairs divide by nothing but 2 and 8.
 ghost use Rattle.std.specs.Prelude.{◌≡◌, ◌%◌, ◌≤◌, ◌<◌};
-ghost use Rattle.codes.specs.Columns.{column_length, column_limits};
+ghost use Rattle.strings.specs.Bits.{max_bits};
+ghost use Rattle.codes.specs.Columns.{column_length, column_limits, RunApart};
+ghost use Rattle.codes.specs.code.Weaving.{next_column};
+ghost use Rattle.codes.specs.laws.RunLaws.{RunApart-prop};
+
+use strings::BitRange;
 
 // Whether so many columns are asked about.
 pub fn is_column_count(b: u32) -> bool
@@ -27,4 +32,38 @@ pub fn column_of(b: usize, i: usize) -> usize
     ensures upper_bound { result < b }
 {
     i % b
+}
+
+// The next column: behind the last comes the first again. Loops over bits step the column so, without a division at each bit.
+pub fn next_column(b: usize, j: usize) -> usize
+    requires { j < b }
+    ensures { result ≡ next_column b j }
+{
+    if j + 1 < b {
+        return j + 1;
+    }
+    0
+}
+
+// Column j of the b columns of a range: every b-th bit from bit j on.
+#[derive(Clone, Copy)]
+pub struct Column<'a> {
+    pub piece: BitRange<'a>,
+    pub b: usize,
+    pub j: usize,
+    ghost least: { 2 ≤ b },
+    ghost most: { b ≤ 32 },
+    ghost inside: { j < b },
+}
+
+// A range that is to become one of n bits by a run of b bits put in or taken out, one in each column.
+#[derive(Clone, Copy)]
+pub struct Run<'a> {
+    pub piece: BitRange<'a>,
+    pub n: usize,
+    pub b: usize,
+    ghost least: { 2 ≤ b },
+    ghost most: { b ≤ 32 },
+    ghost apart: { RunApart b piece.len n } by { RunApart-prop b piece.len n least },
+    ghost few: { n ≤ max_bits },
 }

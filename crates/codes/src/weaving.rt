@@ -1,85 +1,30 @@
 // The repaired columns of a range woven to one piece, read bit by bit from the range: its hash and its copy. Nothing of it is stored before
 // it is known that it is the answer.
 ghost use Rattle.std.specs.Prelude.{◌≡◌, ◌+◌, ◌-◌, ◌≤◌, ◌<◌};
-ghost use Rattle.strings.specs.Bits.{max_bits, range, write_bits, Part};
-ghost use Rattle.codes.specs.Columns.{RunApart};
+ghost use Rattle.strings.specs.Bits.{max_bits, write_bits, Part};
+ghost use Rattle.strings.specs.Ranges.{bits};
 ghost use Rattle.codes.specs.Hash.{hash};
 ghost use Rattle.codes.specs.code.HashForms.{Went};
-ghost use Rattle.codes.specs.code.Weaving.{bit_put, bit_taken, woven_bit, woven_from, woven, next_column, Placed, Spans, Smaller, Larger, Around, behind_place};
+ghost use Rattle.codes.specs.code.Weaving.{bit_put, bit_taken, woven_bit, woven_from, woven, Placed, Spans, Around, behind_place};
+ghost use Rattle.codes.specs.code.Runs.{places, put_bits};
 
-use crate::rows::Hashing;
+use crate::rows::{HashKey, Hashing};
+use crate::shape::{Run, column_of, next_column};
+use strings::BitRange;
 
-// The repairs of all columns: of each the place of its edit in the piece, and the bit that is put in, if one is. Where a column has no
-// repair, not all have one, and the places and bits say nothing.
+// The repair of one column: the place of its edit in the piece, and the bit that is put in, if one is.
 #[derive(Clone, Copy)]
-pub struct RunRepair {
-    pub all: bool,
-    pub places: [usize; 32],
-    pub bits: [bool; 32],
+pub struct ColumnRepair {
+    pub place: usize,
+    pub bit: bool,
 }
 
-// Bit i of the range with one bit put into each column, of which that of bit i has x put in at bit p.
-fn bit_put(s: &[u8], start: usize, len: usize, b: usize, i: usize, p: usize, x: bool) -> bool
-    requires part { Part s.now start len }
-    requires b_bound { b ≤ 32 }
-    requires i_bound { i < len + b }
-    requires p_bound { p < len + b }
-    ensures { result ≡ bit_put (range s.now start len) b i p x }
-{
-    if i + b <= p {
-        return strings::get_bit(s, start + i);
-    }
-    if p + b <= i {
-        return strings::get_bit(s, start + (i - b));
-    }
-    x
-}
-
-// Bit i of the range with one bit taken out of each column, of which that of bit i loses bit p.
-fn bit_taken(s: &[u8], start: usize, len: usize, b: usize, i: usize, p: usize) -> bool
-    requires part { Part s.now start len }
-    requires b_bound { i + b < len }
-    ensures { result ≡ bit_taken (range s.now start len) b i p }
-{
-    if i < p {
-        return strings::get_bit(s, start + i);
-    }
-    strings::get_bit(s, start + (i + b))
-}
-
-// Bit i of the repaired range, which has n bits.
-fn woven_bit(
-    s: &[u8],
-    start: usize,
-    len: usize,
-    n: usize,
-    b: usize,
-    i: usize,
-    p: usize,
-    x: bool,
-) -> bool
-    requires part { Part s.now start len }
-    requires run_apart { RunApart b len n }
-    requires b_bound { b ≤ 32 }
-    requires i_lt_n { i < n }
-    requires p_bound { p < len + b }
-    ensures { result ≡ woven_bit (range s.now start len) n b i p x }
-{
-    if len < n {
-        return bit_put(s, start, len, b, i, p, x);
-    }
-    bit_taken(s, start, len, b, i, p)
-}
-
-// The column of the next bit.
-fn next_column(b: usize, j: usize) -> usize
-    requires { j < b }
-    ensures { result ≡ next_column b j }
-{
-    if j + 1 < b {
-        return j + 1;
-    }
-    0
+// The repaired columns as one piece, with the repairs of all of them.
+#[derive(Clone, Copy)]
+pub struct Woven<'a> {
+    pub run: Run<'a>,
+    pub repairs: [ColumnRepair; 32],
+    ghost placed: { Placed run.b run.piece.len (places repairs) },
 }
 
 // The least and the greatest of the places of the edits.
@@ -97,196 +42,148 @@ struct Middle {
     behind: usize,
 }
 
-fn smaller(x: usize, y: usize) -> usize
-    ensures { Smaller x y result }
+// Bit i of the range with one bit put into each column, of which that of bit i has x put in at bit p.
+#[tactic(auto, using(strings::proofs::laws::RangeLaws::range_at))]
+fn bit_put(s: BitRange, b: usize, i: usize, p: usize, x: bool) -> bool
+    requires b_bound { b ≤ 32 }
+    requires i_bound { i < s.len + b }
+    requires p_bound { p < s.len + b }
+    ensures { result ≡ bit_put (bits s.entry) b i p x }
 {
-    if x < y {
-        return x;
+    if i + b <= p {
+        return s.get(i);
     }
-    y
-}
-
-fn larger(x: usize, y: usize) -> usize
-    ensures { Larger x y result }
-{
-    if x < y {
-        return y;
+    if p + b <= i {
+        return s.get(i - b);
     }
     x
 }
 
-fn places_span(run: RunRepair, len: usize, b: usize) -> Span
-    requires le_b { (2 ≤ b) × (b ≤ 32) }
-    requires placed { Placed b len run.places }
-    ensures spans { Spans b result.low result.high run.places }
-    ensures high_bound { result.high < len + b }
+// Bit i of the range with one bit taken out of each column, of which that of bit i loses bit p.
+#[tactic(auto, using(strings::proofs::laws::RangeLaws::range_at))]
+fn bit_taken(s: BitRange, b: usize, i: usize, p: usize) -> bool
+    requires { i + b < s.len }
+    ensures { result ≡ bit_taken (bits s.entry) b i p }
 {
-    let mut low = run.places[0];
-    let mut high = run.places[0];
-    let mut j: usize = 1;
-    while j < b {
-        low = smaller(low, run.places[j]);
-        high = larger(high, run.places[j]);
-        j += 1;
+    if i < p {
+        return s.get(i);
     }
-    Span {
-        low: low,
-        high: high,
-    }
+    s.get(i + b)
 }
 
-fn middle_of(run: RunRepair, len: usize, n: usize, b: usize) -> Middle
-    requires len_le_max_bits { len ≤ max_bits }
-    requires le_b { (2 ≤ b) × (b ≤ 32) }
-    requires placed { Placed b len run.places }
-    ensures { Around b n run.places result.from result.behind }
+// Bit i of the repaired range.
+#[tactic(auto, using(strings::proofs::laws::RangeLaws::range_length))]
+fn woven_bit(run: Run, i: usize, p: usize, x: bool) -> bool
+    requires i_lt_n { i < run.n }
+    requires p_bound { p < run.piece.len + run.b }
+    ensures { result ≡ woven_bit (bits run.entry.piece) run.entry.n run.entry.b i p x }
 {
-    let span = places_span(run, len, b);
-    let behind = smaller(span.high + b, n);
-    if span.low < b {
-        return Middle {
-            from: 0,
-            behind: behind,
-        };
+    if run.piece.len < run.n {
+        return bit_put(run.piece, run.b, i, p, x);
     }
-    Middle {
-        from: smaller(span.low - b, behind),
-        behind: behind,
-    }
+    bit_taken(run.piece, run.b, i, p)
 }
 
 // Where bit i of the repaired range, behind its column's edit, stands in the range.
-fn behind_place(len: usize, n: usize, b: usize, i: usize) -> usize
-    requires b_bound { (b ≤ 32) × (n ≤ max_bits) }
-    requires i_le_n { i ≤ n }
-    requires b_le_i { (len < n) → b ≤ i }
-    ensures { result ≡ behind_place len n b i }
+fn behind_place(run: Run, i: usize) -> usize
+    requires i_le_n { i ≤ run.n }
+    requires b_le_i { (run.piece.len < run.n) → run.b ≤ i }
+    ensures { result ≡ behind_place run.entry.piece.len run.entry.n run.entry.b i }
 {
-    if len < n {
-        return i - b;
+    if run.piece.len < run.n {
+        return i - run.b;
     }
-    i + b
+    i + run.b
 }
 
-// The bits `from` to `behind` of the repaired range more, in a hash under way.
-fn hash_middle(
-    s: &[u8],
-    start: usize,
-    len: usize,
-    n: usize,
-    b: usize,
-    run: RunRepair,
-    from: usize,
-    behind: usize,
-    sum: u32,
-    row: u32,
-) -> Hashing
-    requires part { Part s.now start len }
-    requires n_le_max_bits { n ≤ max_bits }
-    requires run_apart { RunApart b len n }
-    requires le_b { (2 ≤ b) × (b ≤ 32) }
-    requires placed { Placed b len run.places }
-    requires from_le_behind { (from ≤ behind) × (behind ≤ n) }
-    ensures { Went sum row (woven_from (range s.now start len) n b run.places run.bits from (behind - from)) result.sum result.row }
-{
-    let mut acc = sum;
-    let mut v = row;
-    let mut j = crate::shape::column_of(b, from);
-    let mut i = from;
-    while i < behind {
-        let x = woven_bit(s, start, len, n, b, i, run.places[j], run.bits[j]);
-        let next = crate::rows::hash_bit(x, acc, v);
-        acc = next.sum;
-        v = next.row;
-        j = next_column(b, j);
-        i += 1;
+impl Woven<'_> {
+    fn span(&self) -> Span
+        ensures spans { Spans self.now.run.b result.low result.high (places self.now.repairs) }
+        ensures high_bound { result.high < self.now.run.piece.len + self.now.run.b }
+    {
+        let mut low = self.repairs[0].place;
+        let mut high = low;
+        for j in 1..self.run.b {
+            let place = self.repairs[j].place;
+            low = low.min(place);
+            high = high.max(place);
+        }
+        Span { low, high }
     }
-    Hashing { sum: acc, row: v }
-}
 
-// The hash of the repaired range, which has n bits and is not stored.
-pub fn hash_woven(
-    s: &[u8],
-    start: usize,
-    len: usize,
-    n: usize,
-    b: usize,
-    run: RunRepair,
-    key: u32,
-    h: u32,
-) -> u32
-    requires part { Part s.now start len }
-    requires n_le_max_bits { n ≤ max_bits }
-    requires run_apart { RunApart b len n }
-    requires le_b { (2 ≤ b) × (b ≤ 32) }
-    requires placed { Placed b len run.places }
-    requires h_bound { h ≤ 32 }
-    ensures { result ≡ hash h key (woven (range s.now start len) n b run.places run.bits) }
-{
-    let m = middle_of(run, len, n, b);
-    let before = crate::rows::hash_on(s, start, m.from, 0, key);
-    let here = hash_middle(
-        s, start, len, n, b, run, m.from, m.behind, before.sum, before.row,
-    );
-    let p = behind_place(len, n, b, m.behind);
-    let all = crate::rows::hash_on(s, start + p, n - m.behind, here.sum, here.row);
-    crate::rows::low_bits(all.sum, h)
-}
-
-// The bits `from` to `behind` of the repaired range are written into `to` from place `at` on.
-fn copy_middle(
-    s: &[u8],
-    start: usize,
-    len: usize,
-    n: usize,
-    b: usize,
-    run: RunRepair,
-    from: usize,
-    behind: usize,
-    to: &mut [u8],
-    at: usize,
-)
-    requires part { Part s.now start len }
-    requires part_2 { Part to.old at (behind - from) }
-    requires run_apart { RunApart b len n }
-    requires le_b { (2 ≤ b) × (b ≤ 32) }
-    requires placed { Placed b len run.places }
-    requires from_le_behind { (from ≤ behind) × (behind ≤ n) × (n ≤ max_bits) }
-    ensures { to.new
-        ≡ write_bits to.old at (woven_from (range s.now start len) n b run.places run.bits from (behind - from)) }
-{
-    let mut j = crate::shape::column_of(b, from);
-    let mut i = from;
-    while i < behind {
-        let x = woven_bit(s, start, len, n, b, i, run.places[j], run.bits[j]);
-        strings::set_bit(to, at + (i - from), x);
-        j = next_column(b, j);
-        i += 1;
+    fn middle(&self) -> Middle
+        ensures { Around self.now.run.b self.now.run.n (places self.now.repairs) result.from result.behind }
+    {
+        let span = self.span();
+        let b = self.run.b;
+        let behind = self.run.n.min(span.high + b);
+        Middle {
+            from: span.low.saturating_sub(b).min(behind),
+            behind,
+        }
     }
-}
 
-// The repaired range is written into `to` from place `at` on.
-pub fn copy_woven(
-    s: &[u8],
-    start: usize,
-    len: usize,
-    n: usize,
-    b: usize,
-    run: RunRepair,
-    to: &mut [u8],
-    at: usize,
-)
-    requires part { Part s.now start len }
-    requires part_2 { Part to.old at n }
-    requires run_apart { RunApart b len n }
-    requires le_b { (2 ≤ b) × (b ≤ 32) }
-    requires placed { Placed b len run.places }
-    ensures { to.new
-        ≡ write_bits to.old at (woven (range s.now start len) n b run.places run.bits) }
-{
-    let m = middle_of(run, len, n, b);
-    strings::copy_bits(s, start, m.from, to, at);
-    copy_middle(s, start, len, n, b, run, m.from, m.behind, to, at + m.from);
-    let p = behind_place(len, n, b, m.behind);
-    strings::copy_bits(s, start + p, n - m.behind, to, at + m.behind);
+    // The bits of the middle more, in a hash under way.
+    fn hash_middle(&self, m: Middle, before: Hashing) -> Hashing
+        requires { (m.from ≤ m.behind) × (m.behind ≤ self.now.run.n) }
+        ensures { Went before.sum before.row (woven_from (bits self.now.run.piece) self.now.run.n self.now.run.b (places self.now.repairs) (put_bits self.now.repairs) m.from (m.behind - m.from)) result.sum result.row }
+    {
+        let run = self.run;
+        let mut all = before;
+        let mut j = column_of(run.b, m.from);
+        for i in m.from..m.behind {
+            let one = self.repairs[j];
+            all = all.bit(woven_bit(run, i, one.place, one.bit));
+            j = next_column(run.b, j);
+        }
+        all
+    }
+
+    // The hash of the repaired range, which is not stored.
+    pub fn hash(&self, k: HashKey) -> u32
+        ensures { result ≡ hash k.h k.key (woven (bits self.now.run.piece) self.now.run.n self.now.run.b (places self.now.repairs) (put_bits self.now.repairs)) }
+    {
+        let Run { piece, n, .. } = self.run;
+        let m = self.middle();
+        let before = k.start().over(piece.first(m.from));
+        let here = self.hash_middle(m, before);
+        let behind = piece
+            .skip(behind_place(self.run, m.behind))
+            .first(n - m.behind);
+        let all = here.over(behind);
+        k.cut(all)
+    }
+
+    // The bits of the middle are written into `to` from place `at` on.
+    fn copy_middle(&self, m: Middle, to: &mut [u8], at: usize)
+        requires part { Part to.old at (m.behind - m.from) }
+        requires from_le_behind { (m.from ≤ m.behind) × (m.behind ≤ self.now.run.n) }
+        ensures { to.new
+            ≡ write_bits to.old at (woven_from (bits self.now.run.piece) self.now.run.n self.now.run.b (places self.now.repairs) (put_bits self.now.repairs) m.from (m.behind - m.from)) }
+    {
+        let run = self.run;
+        let mut j = column_of(run.b, m.from);
+        for i in m.from..m.behind {
+            let one = self.repairs[j];
+            let x = woven_bit(run, i, one.place, one.bit);
+            strings::set_bit(to, at + (i - m.from), x);
+            j = next_column(run.b, j);
+        }
+    }
+
+    // The repaired range is written into `to` from place `at` on.
+    pub fn copy(&self, to: &mut [u8], at: usize)
+        requires { Part to.old at self.now.run.n }
+        ensures { to.new
+            ≡ write_bits to.old at (woven (bits self.now.run.piece) self.now.run.n self.now.run.b (places self.now.repairs) (put_bits self.now.repairs)) }
+    {
+        let Run { piece, n, .. } = self.run;
+        let m = self.middle();
+        strings::copy_bits(piece.first(m.from), to, at);
+        self.copy_middle(m, to, at + m.from);
+        let behind = piece
+            .skip(behind_place(self.run, m.behind))
+            .first(n - m.behind);
+        strings::copy_bits(behind, to, at + m.behind);
+    }
 }

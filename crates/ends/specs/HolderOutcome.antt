@@ -1,12 +1,9 @@
--- What the holder's call gives and leaves (01, "Messages", "Why a call is turned down"), and what each case of the code's answer says.
+-- What the holder's call gives and leaves (01, "Messages", "Why a call is turned down").
 use Rattle.std.specs.Prelude.{List, ℕ, length}
 use Rattle.strings.specs.Bits.{at_front}
-use Rattle.strings.specs.Refusals.{refusal_number}
-use Rattle.strings.specs.Results.{Result, refusal, value}
+use Rattle.strings.specs.Results.{Result, refusal, value, said}
 use Rattle.ends.specs.declared.Holder.{Holder}
 use Rattle.ends.specs.HolderCall.{Reply, holder_call}
-use Rattle.ends.specs.declared.answering.HolderAnswer.{HolderAnswer}
-use Rattle.ends.specs.declared.answering.HolderAnswer.TheVariants.{Replied, Refused}
 use Rattle.ends.specs.declared.answering.HolderOut.{HolderOut}
 
 -- a refusal's number alone or the length of the message sent; the next state; the bytes of the reply buffer
@@ -15,13 +12,9 @@ pub record HolderSaid : Type 0 where
   pub state : Holder
   pub reply : List ℕ
 
--- what the code's answer says: a reply's length, or 01's number of the refusal
-abbrev pub answer_said : HolderAnswer → Result ℕ
-answer_said (Replied size) = value size
-answer_said (Refused e) = refusal (refusal_number e)
-
+-- what the code's result says: a reply's length, or 01's number of the refusal
 abbrev pub said_holder : HolderOut → List ℕ → HolderSaid
-said_holder r reply = record { answer = answer_said r.answer; state = r.state; reply = reply }
+said_holder r reply = record { answer = said r.answer; state = r.state; reply = reply }
 
 -- turned down: state and reply stay; else the message stands at the front of the reply, and later bytes stay
 abbrev pub leaves_holder : Holder → List ℕ → Result Reply → HolderSaid

@@ -1,5 +1,5 @@
 -- What the rebuilder's start and call give and leave in the lent buffers, and what each case of the code's answers says.
-use Rattle.std.specs.Prelude.{List, [], ◌∷◌, ℕ, length, replicate}
+use Rattle.std.specs.Prelude.{List, [], ◌∷◌, ℕ, length, replicate, Result as CodeResult, Ok, Err, Option as CodeOption, Some, None}
 use Rattle.ends.specs.declared.Rebuilder.{Rebuilder}
 use Rattle.ends.specs.declared.Phase.TheVariants.{AtOpening}
 use Rattle.ends.specs.declared.Stage.TheVariants.{Hashing}
@@ -8,23 +8,16 @@ use Rattle.ends.specs.declared.SheetChange.TheVariants.{NoRow}
 use Rattle.ends.specs.States.{no_piece}
 use Rattle.strings.specs.declared.settings.Settings.{Settings}
 use Rattle.ends.specs.RebuilderCall.{Taken, string_after, Capacities, Started, rebuilder_start, rebuilder_call}
-use Rattle.ends.specs.declared.rebuilding.StartAnswer.{StartAnswer}
-use Rattle.ends.specs.declared.rebuilding.StartAnswer.TheVariants.{Begun, NotBegun}
 use Rattle.ends.specs.declared.rebuilding.StartOut.{StartOut}
-use Rattle.ends.specs.declared.rebuilding.RebuilderAnswer.{RebuilderAnswer}
-use Rattle.ends.specs.declared.rebuilding.RebuilderAnswer.TheVariants.{Asks, Finished, Refused}
 use Rattle.ends.specs.declared.rebuilding.RebuilderOut.{RebuilderOut}
-use Rattle.strings.specs.Results.{Result, refusal, value}
+use Rattle.strings.specs.Results.{Result, refusal, value, said}
 use Rattle.strings.specs.Bits.{at_front}
 use Rattle.strings.specs.Refusals.{refusal_number}
+use Rattle.strings.specs.declared.Refusal.{Refusal}
 use Rattle.std.proofs.Math.Option.{Option, none, some}
 
 -- ---- the start
--- what the code's answer says: the length of the opening question, or 01's number of the refusal
-abbrev pub start_said : StartAnswer → Result ℕ
-start_said (Begun size) = value size
-start_said (NotBegun e) = refusal (refusal_number e)
-
+-- the answer: the length of the opening question, or 01's number of the refusal
 pub record StartSaid : Type 0 where
   pub answer : Result ℕ
   pub state : Rebuilder
@@ -46,7 +39,7 @@ no_rebuilder = record {
 }
 
 abbrev pub said_start : StartOut → List ℕ → StartSaid
-said_start r q = record { answer = start_said r.answer; state = r.state; question = q }
+said_start r q = record { answer = said r.answer; state = r.state; question = q }
 
 -- turned down: the question buffer is as it was; begun: the opening question stands at its front
 abbrev pub leaves_start : List ℕ → Result Started → StartSaid
@@ -59,10 +52,10 @@ start_outcome S y bits question = leaves_start question (rebuilder_start S y bit
 
 -- ---- the call
 -- what the code's answer says: the length of the next question, none at the finish, or 01's number of the refusal
-abbrev pub call_said : RebuilderAnswer → Result (Option ℕ)
-call_said (Asks size) = value (some size)
-call_said Finished = value none
-call_said (Refused e) = refusal (refusal_number e)
+abbrev pub call_said : CodeResult (CodeOption ℕ) Refusal → Result (Option ℕ)
+call_said (Ok (Some size)) = value (some size)
+call_said (Ok None) = value none
+call_said (Err e) = refusal (refusal_number e)
 
 pub record RebuilderSaid : Type 0 where
   pub answer : Result (Option ℕ)

@@ -1,30 +1,27 @@
 // The holder: its call, which takes one question and gives the answer.
-ghost use Rattle.std.specs.Prelude.{◌≡◌, true, ◌≤◌, ◌<◌, length, take};
+ghost use Rattle.std.specs.Prelude.{◌≡◌, ◌&&◌, ◌≤◌, ◌<◌, length, take, ltb};
 ghost use Rattle.strings.specs.Bits.{range, Part};
+ghost use Rattle.strings.specs.Ranges.{bits};
+ghost use Rattle.strings.specs.StringRule.{string_rule};
 ghost use Rattle.codes.specs.Columns.{syndromes};
+ghost use Rattle.codes.specs.Hash.{hash};
 ghost use Rattle.messages.specs.Answers.{size_answer, bits_answer};
 ghost use Rattle.ends.specs.HolderCall.{fresh_holder, same_bit_count, in_turn, answers_to, of_kind};
-ghost use Rattle.ends.specs.Soundness.{most_answers};
+ghost use Rattle.ends.specs.Soundness.{holder_sound, most_answers};
 ghost use Rattle.ends.specs.HolderOutcome.{said_holder, leaves_holder, holder_outcome};
-ghost use Rattle.ends.specs.code.HolderParts.{refused, written, opened_with, one_more, hash_reply, syndrome_reply, burst_reply, reply_outcome, Answers, Able, Ready};
+ghost use Rattle.ends.specs.code.HolderParts.{refused, written, opened_with, one_more, hash_reply, syndrome_reply, burst_reply, reply_outcome, Answering, Able, Ready};
 
 use crate::sound::holder_is_sound;
 use crate::{Holder, MOST_ANSWERS};
-use messages::{Kind, KindRead, Question, QuestionRead, WriteResult};
-use strings::{Refusal, both};
+use codes::{Column, HashKey};
+use messages::{Kind, Question};
+use strings::{BitRange, Refusal};
 
-#[derive(Clone, Copy)]
-pub enum HolderAnswer {
-    // The reply begins with the answer, of so many bytes.
-    Replied(usize),
-    // The call is turned down; state and reply are as they were.
-    Refused(Refusal),
-}
-
-// The answer, and the state for the next call.
-#[derive(Clone, Copy)]
+// The length of the answer, with which the reply begins, and the state for the next call. Where the call is turned down,
+// state and reply are as they were.
+#[derive(Clone, Copy, Debug, PartialEq, Eq)]
 pub struct HolderOut {
-    pub answer: HolderAnswer,
+    pub answer: Result<usize, Refusal>,
     pub state: Holder,
 }
 
@@ -46,22 +43,17 @@ fn refuse(st: Holder, e: Refusal) -> HolderOut
     ensures { result ≡ refused st e }
 {
     HolderOut {
-        answer: HolderAnswer::Refused(e),
+        answer: Err(e),
         state: st,
     }
 }
 
 // What the writer of the reply gave: the state becomes `next` if the buffer was long enough.
-fn reply_written(st: Holder, next: Holder, w: WriteResult) -> HolderOut
+fn reply_written(st: Holder, next: Holder, w: Result<usize, Refusal>) -> HolderOut
     ensures { result ≡ written st next w }
 {
-    match w {
-        WriteResult::TooShort => refuse(st, Refusal::BufferTooShort),
-        WriteResult::Written(size) => HolderOut {
-            answer: HolderAnswer::Replied(size),
-            state: next,
-        },
-    }
+    let state = if w.is_ok() { next } else { st };
+    HolderOut { answer: w, state }
 }
 
 // The state after an answer other than the opening's.
@@ -70,11 +62,8 @@ fn one_more(st: Holder) -> Holder
     ensures { result ≡ one_more st }
 {
     Holder {
-        opened: st.opened,
-        bits: st.bits,
-        h: st.h,
-        key: st.key,
         answers: st.answers + 1,
+        ..st
     }
 }
 
@@ -85,76 +74,100 @@ fn answer_open(st: Holder, n: u32, h: u32, key: u32, reply: &mut [u8]) -> Holder
     let next = Holder {
         opened: true,
         bits: n,
-        h: h,
-        key: key,
+        h,
+        key,
         answers: 1,
     };
     let w = messages::write_size(n, reply);
     reply_written(st, next, w)
 }
 
+// The hash of a piece of X, by the opening's key.
+fn hash_of(st: Holder, piece: BitRange) -> u32
+    requires { st.h ≤ 32 }
+    ensures { result ≡ hash st.h st.key (bits piece.entry) }
+{
+    HashKey {
+        key: st.key,
+        h: st.h,
+    }
+    .hash(piece)
+}
+
+// That an answer is left and h fits (Answering) stays a clause of these functions: the state that it speaks of is what they hand on.
+
 // The answer to a hash question.
-fn answer_hash(st: Holder, x: &[u8], start: u32, len: u32, reply: &mut [u8]) -> HolderOut
-    requires { Answers st x.now start len }
+fn answer_hash(st: Holder, piece: BitRange, reply: &mut [u8]) -> HolderOut
+    requires { Answering st }
     ensures { said_holder result reply.new
-        ≡ reply_outcome st (one_more st) (hash_reply st (range x.now start len)) reply.old }
+        ≡ reply_outcome st (one_more st) (hash_reply st (bits piece.entry)) reply.old }
 {
     let next = one_more(st);
-    let v = codes::hash_of(x, start as usize, len as usize, st.key, st.h);
+    let v = hash_of(st, piece);
     let w = messages::write_hash(v, reply);
     reply_written(st, next, w)
 }
 
 // The answer to a syndrome question.
-fn answer_syndrome(st: Holder, x: &[u8], start: u32, len: u32, reply: &mut [u8]) -> HolderOut
-    requires { Answers st x.now start len }
+fn answer_syndrome(st: Holder, piece: BitRange, reply: &mut [u8]) -> HolderOut
+    requires { Answering st }
     ensures { said_holder result reply.new
-        ≡ reply_outcome st (one_more st) (syndrome_reply st (range x.now start len)) reply.old }
+        ≡ reply_outcome st (one_more st) (syndrome_reply st (bits piece.entry)) reply.old }
 {
     let next = one_more(st);
-    let a = codes::syndrome_of(x, start as usize, len as usize);
-    let v = codes::hash_of(x, start as usize, len as usize, st.key, st.h);
+    let a = codes::syndrome_of(piece);
+    let v = hash_of(st, piece);
     let w = messages::write_syndrome(a as u32, v, reply);
     reply_written(st, next, w)
 }
 
 // The answer to a bits question.
-fn answer_bits(st: Holder, x: &[u8], start: u32, len: u32, reply: &mut [u8]) -> HolderOut
-    requires { Answers st x.now start len }
+fn answer_bits(st: Holder, piece: BitRange, reply: &mut [u8]) -> HolderOut
+    requires { Answering st }
     ensures { said_holder result reply.new
-        ≡ reply_outcome st (one_more st) (bits_answer (range x.now start len)) reply.old }
+        ≡ reply_outcome st (one_more st) (bits_answer (bits piece.entry)) reply.old }
 {
     let next = one_more(st);
-    let w = messages::write_bits(x, start as usize, len as usize, reply);
+    let w = messages::write_bits(piece, reply);
     reply_written(st, next, w)
 }
 
 // The syndromes of the b columns of a range, at the front of the array.
-fn column_syndromes(x: &[u8], start: usize, len: usize, b: usize) -> [u32; 32]
-    requires part { Part x.now start len }
-    requires le_b { (2 ≤ b) × (b ≤ 32) }
-    ensures { take b result ≡ syndromes b (range x.now start len) }
+fn column_syndromes(piece: BitRange, b: usize) -> [u32; 32]
+    requires { (2 ≤ b) × (b ≤ 32) }
+    ensures { take b result ≡ syndromes b (bits piece.entry) }
 {
     let mut a = [0u32; 32];
-    let mut j: usize = 0;
-    while j < b {
-        a[j] = codes::syndrome_of_column(x, start, len, b, j) as u32;
-        j += 1;
+    for j in 0..b {
+        a[j] = codes::syndrome_of_column(Column { piece, b, j }) as u32;
     }
     a
 }
 
 // The answer to a burst question: the syndromes of the columns, then the hash.
-fn answer_burst(st: Holder, x: &[u8], start: u32, len: u32, b: u32, reply: &mut [u8]) -> HolderOut
-    requires answers { Answers st x.now start len }
+fn answer_burst(st: Holder, piece: BitRange, b: u32, reply: &mut [u8]) -> HolderOut
+    requires answers { Answering st }
     requires le_b { (2 ≤ b) × (b ≤ 32) }
-    ensures { said_holder result reply.new ≡ reply_outcome st (one_more st) (burst_reply st b (range x.now start len)) reply.old }
+    ensures { said_holder result reply.new
+        ≡ reply_outcome st (one_more st) (burst_reply st b (bits piece.entry)) reply.old }
 {
     let next = one_more(st);
-    let a = column_syndromes(x, start as usize, len as usize, b as usize);
-    let v = codes::hash_of(x, start as usize, len as usize, st.key, st.h);
-    let w = messages::write_burst(a, b, v, reply);
+    let a = column_syndromes(piece, b as usize);
+    let v = hash_of(st, piece);
+    let w = messages::write_burst(&a[..b as usize], v, reply);
     reply_written(st, next, w)
+}
+
+// The piece of X that a question names.
+fn piece_of<'a>(x: &'a [u8], start: u32, len: u32) -> BitRange<'a>
+    requires { Part x.now start len }
+    ensures { bits result ≡ range x.now start len }
+{
+    BitRange {
+        bytes: x,
+        start: start as usize,
+        len: len as usize,
+    }
 }
 
 // The answer to a question that was read, for X of n bits.
@@ -165,10 +178,10 @@ fn answer_question(st: Holder, x: &[u8], n: u32, q: Question, reply: &mut [u8]) 
 {
     match q {
         Question::AskOpen(h, key) => answer_open(st, n, h, key, reply),
-        Question::AskHash(start, len) => answer_hash(st, x, start, len, reply),
-        Question::AskSyndrome(start, len) => answer_syndrome(st, x, start, len, reply),
-        Question::AskBits(start, len) => answer_bits(st, x, start, len, reply),
-        Question::AskBurst(start, len, b) => answer_burst(st, x, start, len, b, reply),
+        Question::AskHash(start, len) => answer_hash(st, piece_of(x, start, len), reply),
+        Question::AskSyndrome(start, len) => answer_syndrome(st, piece_of(x, start, len), reply),
+        Question::AskBits(start, len) => answer_bits(st, piece_of(x, start, len), reply),
+        Question::AskBurst(start, len, b) => answer_burst(st, piece_of(x, start, len), b, reply),
     }
 }
 
@@ -178,10 +191,7 @@ fn is_in_turn(opened: bool, kind: Kind) -> bool
 {
     match kind {
         Kind::Open => !opened,
-        Kind::Hash => opened,
-        Kind::Syndrome => opened,
-        Kind::Bits => opened,
-        Kind::Burst => opened,
+        _ => opened,
     }
 }
 
@@ -203,36 +213,38 @@ fn answer_kind(
         return refuse(st, Refusal::OutOfTurn);
     }
     match messages::read_fields(kind, msg, at, n) {
-        QuestionRead::NoQuestion(e) => refuse(st, e),
-        QuestionRead::Asked(q) => answer_question(st, x, n, q, reply),
+        Err(e) => refuse(st, e),
+        Ok(q) => answer_question(st, x, n, q, reply),
     }
 }
 
-// Whether an opened holder is handed as many bits as at its opening.
-fn has_same_bit_count(st: Holder, bits: usize) -> bool
-    ensures { result ≡ same_bit_count st bits }
+// Whether X keeps the string rule, and has as many bits as at the opening if there was one.
+#[tactic(auto, unfolding(crate::specs::HolderCall::same_bit_count))]
+fn is_same_string(st: Holder, x: &[u8], bits: usize) -> bool
+    ensures { result ≡ (string_rule x.now bits && same_bit_count st bits) }
 {
-    if st.opened {
-        return (st.bits as usize) == bits;
-    }
-    true
+    strings::keeps_string_rule(x, bits) && (!st.opened || (st.bits as usize) == bits)
+}
+
+// Whether the state is sound and an answer is left.
+fn has_answer_left(st: Holder) -> bool
+    ensures { result ≡ (holder_sound st && ltb st.answers most_answers) }
+{
+    holder_is_sound(st) && st.answers < MOST_ANSWERS
 }
 
 // The holder's call on X, its bit count, a message and the buffer for the reply.
 pub fn holder_call(st: Holder, x: &[u8], bits: usize, msg: &[u8], reply: &mut [u8]) -> HolderOut
     ensures { said_holder result reply.new ≡ holder_outcome st x.now bits msg.now reply.old }
 {
-    if !both(
-        strings::keeps_string_rule(x, bits),
-        has_same_bit_count(st, bits),
-    ) {
+    if !is_same_string(st, x, bits) {
         return refuse(st, Refusal::BadString);
     }
-    if !both(holder_is_sound(st), st.answers < MOST_ANSWERS) {
+    if !has_answer_left(st) {
         return refuse(st, Refusal::OutOfTurn);
     }
     match messages::read_kind(msg) {
-        KindRead::NoKind(e) => refuse(st, e),
-        KindRead::Known(kind, at) => answer_kind(st, x, bits as u32, kind, msg, at, reply),
+        Err(e) => refuse(st, e),
+        Ok((kind, at)) => answer_kind(st, x, bits as u32, kind, msg, at, reply),
     }
 }

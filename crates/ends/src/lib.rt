@@ -2,6 +2,9 @@
 // the states' steps and soundness, the holder's call, the rebuilder's start and call, and its call over a lent sheet.
 #![tactic(auto)]
 
+ghost use Rattle.std.specs.Prelude.{◌≡◌};
+ghost use Rattle.ends.specs.Segments.{how_number};
+
 use strings::Settings;
 
 mod anchors;
@@ -12,11 +15,9 @@ mod sound;
 mod state;
 mod steps;
 
-pub use anchors::{AnchorAnswer, find_anchor};
-pub use answering::{HolderAnswer, HolderOut, fresh_holder, holder_call};
-pub use rebuilding::{
-    RebuilderAnswer, RebuilderOut, StartAnswer, StartOut, rebuilder_call, rebuilder_start,
-};
+pub use anchors::find_anchor;
+pub use answering::{HolderOut, fresh_holder, holder_call};
+pub use rebuilding::{RebuilderOut, StartOut, rebuilder_call, rebuilder_start};
 pub use sheet::rebuilder_call_on_sheet;
 
 // The most answers that a holder gives (specs/Soundness.antt: most_answers).
@@ -26,7 +27,7 @@ const MOST_ANSWERS: u32 = 1000000;
 const LONGEST_NUMBERS: u32 = 102;
 
 // How a row's piece was settled; specs/Segments.antt has the numbers, 1 to 6 in this order.
-#[derive(Clone, Copy)]
+#[derive(Clone, Copy, Debug, PartialEq, Eq)]
 pub enum How {
     ByHash,
     ByPutIn,
@@ -37,8 +38,25 @@ pub enum How {
     ByBurst,
 }
 
-// A row of the sheet: start and length in X, and the number of how.
-#[derive(Clone, Copy)]
+// The number of how.
+impl From<How> for u32 {
+    ghost from_gives = { λ how v. v ≡ how_number how };
+
+    fn from(how: How) -> u32 {
+        match how {
+            How::ByHash => 1,
+            How::ByPutIn => 2,
+            How::ByTakeOut => 3,
+            How::ByAnchor => 4,
+            How::ByBits => 5,
+            How::ByBurst => 6,
+        }
+    }
+}
+
+// A row of the sheet: start and length in X, and the number of how. The number of a row of zeros is 0, which is no How: a sheet is
+// lent with such rows behind the used ones, as the C interface has them in bytes.
+#[derive(Clone, Copy, Debug, PartialEq, Eq)]
 pub struct Row {
     pub start: u32,
     pub len: u32,
@@ -46,7 +64,7 @@ pub struct Row {
 }
 
 // A waiting piece: p bits of X from x on, paired with q bits of Y from y on.
-#[derive(Clone, Copy)]
+#[derive(Clone, Copy, Debug, PartialEq, Eq)]
 pub struct Piece {
     pub x: u32,
     pub p: u32,
@@ -63,7 +81,7 @@ pub const NO_PIECE: Piece = Piece {
 };
 
 // Step 4's anchors, in the order in which they are tried.
-#[derive(Clone, Copy)]
+#[derive(Clone, Copy, Debug, PartialEq, Eq)]
 pub enum Attempt {
     First,
     Second,
@@ -72,7 +90,7 @@ pub enum Attempt {
 
 // What is asked of a waiting piece: its hash (step 2); its syndrome, to put a bit in or to take one out (step 3); the bits of an anchor,
 // or all its bits (step 4).
-#[derive(Clone, Copy)]
+#[derive(Clone, Copy, Debug, PartialEq, Eq)]
 pub enum Stage {
     Hashing,
     PuttingIn,
@@ -84,7 +102,7 @@ pub enum Stage {
 }
 
 // What is awaited: the opening's answer; one for the leftmost waiting piece, or nothing if none waits; bits 0, n.
-#[derive(Clone, Copy)]
+#[derive(Clone, Copy, Debug, PartialEq, Eq)]
 pub enum Phase {
     AtOpening,
     AtPieces,
@@ -92,7 +110,7 @@ pub enum Phase {
 }
 
 // The rebuilder's state (docs/STATE.md).
-#[derive(Clone, Copy)]
+#[derive(Clone, Copy, Debug, PartialEq, Eq)]
 pub struct Rebuilder {
     pub settings: Settings,
     // Y's bit count.
@@ -106,21 +124,22 @@ pub struct Rebuilder {
     pub rows: u32,
     // The leftmost piece's; Hashing if none waits.
     pub stage: Stage,
-    // The waiting pieces, the leftmost last, zeros behind it.
+    // The waiting pieces, the leftmost last, zeros behind it: an array and a count, since memory is fixed.
     pub waiting: u32,
     pub pieces: [Piece; 32],
 }
 
 // What a call of the rebuilder does to the sheet: nothing; a row at an index; or one row in place of the used ones.
-#[derive(Clone, Copy)]
+#[derive(Clone, Copy, Debug, PartialEq, Eq)]
 pub enum SheetChange {
     NoRow,
     AddRow(u32, Row),
     OneRow(u32, Row),
 }
 
-// The holder's state: whether it is opened, and from the opening on X's bit count, h, key and the answers given.
-#[derive(Clone, Copy)]
+// The holder's state: whether it is opened, and from the opening on X's bit count, h, key and the answers given. The C interface keeps a flag
+// beside the numbers: a host's bytes may say both not opened and numbers, which is a state to be told apart and turned down.
+#[derive(Clone, Copy, Debug, PartialEq, Eq)]
 pub struct Holder {
     pub opened: bool,
     pub bits: u32,

@@ -1,5 +1,5 @@
 // The rebuilder: its start, and its call, which takes one answer and gives the next question.
-ghost use Rattle.std.specs.Prelude.{◌≡◌, true, ◌&&◌, leb, ℕ, ◌+◌, ◌*◌, ◌/◌, ◌≤◌, ◌<◌, length};
+ghost use Rattle.std.specs.Prelude.{◌≡◌, true, ◌&&◌, leb, ℕ, ◌+◌, ◌*◌, ◌/◌, ◌≤◌, ◌<◌, length, Err};
 ghost use Rattle.std.proofs.Math.Option.{some};
 ghost use Rattle.strings.specs.Bits.{bytes_for};
 ghost use Rattle.messages.specs.Questions.{question_kind, question_length, question_burst};
@@ -7,43 +7,28 @@ ghost use Rattle.ends.specs.States.{planned};
 ghost use Rattle.ends.specs.Soundness.{sound};
 ghost use Rattle.ends.specs.RebuilderOutcome.{said_rebuilder, rebuilder_outcome, capacities, no_rebuilder, said_start, start_outcome};
 ghost use Rattle.ends.specs.code.RebuilderParts.{turned_down, Due, enough_for_answer, heard_outcome, asked_outcome};
-ghost use Rattle.ends.specs.declared.rebuilding.StartAnswer.TheVariants.{NotBegun};
 
 use crate::sound::rebuilder_is_sound;
-use crate::state::Plan;
+use crate::steps::Turn;
 use crate::{Rebuilder, SheetChange, state, steps};
-use messages::{AnswerRead, Kind, Question, WriteResult};
-use strings::{Refusal, Settings, both};
+use messages::{Found, Kind, Question};
+use strings::{Refusal, Settings};
 
 // The bytes of a question's buffer: no question takes more.
 const QUESTION_BYTES: usize = 8;
 
-// What a start gives: the length of the opening question, or why it is turned down.
-#[derive(Clone, Copy)]
-pub enum StartAnswer {
-    Begun(usize),
-    NotBegun(Refusal),
-}
-
-// Beside it the first state; of a start that is turned down, one of zeros.
-#[derive(Clone, Copy)]
+// What a start gives: the length of the opening question, or why it is turned down; and the first state, one of zeros where it is turned down.
+#[derive(Clone, Copy, Debug, PartialEq, Eq)]
 pub struct StartOut {
-    pub answer: StartAnswer,
+    pub answer: Result<usize, Refusal>,
     pub state: Rebuilder,
 }
 
-// What a call gives: the length of the next question, the finish, or why it is turned down.
-#[derive(Clone, Copy)]
-pub enum RebuilderAnswer {
-    Asks(usize),
-    Finished,
-    Refused(Refusal),
-}
-
-// Beside it the next state, what happens to the sheet, the questions answered and the counted bytes.
-#[derive(Clone, Copy)]
+// What a call gives: the length of the next question, none at the finish, or why it is turned down; the next state, what happens to the sheet,
+// the questions answered and the counted bytes.
+#[derive(Clone, Copy, Debug, PartialEq, Eq)]
 pub struct RebuilderOut {
-    pub answer: RebuilderAnswer,
+    pub answer: Result<Option<usize>, Refusal>,
     pub state: Rebuilder,
     pub sheet: SheetChange,
     pub answered: u32,
@@ -54,13 +39,7 @@ pub struct RebuilderOut {
 fn refuse(st: Rebuilder, e: Refusal) -> RebuilderOut
     ensures { result ≡ turned_down e st }
 {
-    RebuilderOut {
-        answer: RebuilderAnswer::Refused(e),
-        state: st,
-        sheet: SheetChange::NoRow,
-        answered: st.answered,
-        counted: st.counted,
-    }
+    steps::give(Err(e), st, SheetChange::NoRow)
 }
 
 // The answer that was read is taken.
@@ -70,30 +49,27 @@ fn take(
     msg: &[u8],
     len: u32,
     b: u32,
-    read: AnswerRead,
+    found: Found,
     string: &mut [u8],
     question: &mut [u8],
 ) -> RebuilderOut
-    requires due { Due st msg.now len b read }
-    requires by_index { (rows : ℕ) × (enough_for_answer st (capacities (length string.old) rows (length question.old)) read ≡ true) }
+    requires due { Due st msg.now len b found }
+    requires by_index { (rows : ℕ) × (enough_for_answer st (capacities (length string.old) rows (length question.old)) found ≡ true) }
     requires ybits_bound { st.ybits ≤ 8 * length y.now }
     ensures { said_rebuilder result string.new question.new
-        ≡ heard_outcome st y.now msg.now len b read string.old question.old }
+        ≡ heard_outcome st y.now msg.now len b found string.old question.old }
 {
-    match read {
-        AnswerRead::NoAnswer(e) => refuse(st, e),
-        AnswerRead::IsSize(n) => steps::take_size(st, n, string, question),
-        AnswerRead::IsHash(v) => steps::take_hash(st, y, v, msg.len() as u32, string, question),
-        AnswerRead::IsSyndrome(a, v) => steps::take_syndrome(
-            st,
-            y,
+    match found {
+        Found::IsSize(n) => steps::take_size(st, n, string, question),
+        Found::IsHash(v) => steps::take_hash(Turn::new(st, y, msg), v, string, question),
+        Found::IsSyndrome(a, v) => steps::take_syndrome(
+            Turn::new(st, y, msg),
             a,
             v,
-            msg.len() as u32,
             string,
             question,
         ),
-        AnswerRead::IsBits(at) => steps::take_bits(
+        Found::IsBits(at) => steps::take_bits(
             st,
             y,
             &msg[at..],
@@ -101,12 +77,10 @@ fn take(
             string,
             question,
         ),
-        AnswerRead::IsBurst(v) => steps::take_burst(
-            st,
-            y,
+        Found::IsBurst(v) => steps::take_burst(
+            Turn::new(st, y, msg),
             messages::burst_syndromes(msg, b),
             v,
-            msg.len() as u32,
             string,
             question,
         ),
@@ -119,66 +93,37 @@ fn is_enough(m: u32, n: u32, string: usize, rows: usize, question: usize) -> boo
     ensures { result ≡ (leb (bytes_for n) string && (leb (2 * (n / m) + 1) rows && leb 8 question)) }
 {
     let most = 2 * (n as usize / m as usize) + 1;
-    both(
-        (n as usize + 7) / 8 <= string,
-        both(most <= rows, QUESTION_BYTES <= question),
-    )
+    (n as usize + 7) / 8 <= string && most <= rows && QUESTION_BYTES <= question
 }
 
 // Whether it is enough for the answer that was read.
 fn is_enough_for_answer(
     st: Rebuilder,
-    read: AnswerRead,
+    found: Found,
     string: usize,
     rows: usize,
     question: usize,
 ) -> bool
     requires { 0 < st.settings.m }
-    ensures { result ≡ enough_for_answer st (capacities string rows question) read }
+    ensures { result ≡ enough_for_answer st (capacities string rows question) found }
 {
-    match read {
-        AnswerRead::NoAnswer(e) => true,
-        AnswerRead::IsSize(n) => is_enough(st.settings.m, n, string, rows, question),
-        AnswerRead::IsHash(v) => is_enough(st.settings.m, st.n, string, rows, question),
-        AnswerRead::IsSyndrome(a, v) => is_enough(st.settings.m, st.n, string, rows, question),
-        AnswerRead::IsBits(at) => is_enough(st.settings.m, st.n, string, rows, question),
-        AnswerRead::IsBurst(v) => is_enough(st.settings.m, st.n, string, rows, question),
+    match found {
+        Found::IsSize(n) => is_enough(st.settings.m, n, string, rows, question),
+        Found::IsHash(_) | Found::IsSyndrome(_, _) | Found::IsBits(_) | Found::IsBurst(_) =>
+            is_enough(st.settings.m, st.n, string, rows, question),
     }
 }
 
-fn question_length(q: Question) -> u32
-    ensures { result ≡ question_length q }
+// What its answer is read by: the kind, the length asked for, and the number of columns; of an opening no length, of all but a burst no columns.
+fn awaited(q: Question) -> (Kind, u32, u32)
+    ensures { (result.0 ≡ question_kind q) × (result.1 ≡ question_length q) × (result.2 ≡ question_burst q) }
 {
     match q {
-        Question::AskOpen(h, key) => 0,
-        Question::AskHash(start, len) => len,
-        Question::AskSyndrome(start, len) => len,
-        Question::AskBits(start, len) => len,
-        Question::AskBurst(start, len, b) => len,
-    }
-}
-
-fn question_kind(q: Question) -> Kind
-    ensures { result ≡ question_kind q }
-{
-    match q {
-        Question::AskOpen(h, key) => Kind::Open,
-        Question::AskHash(start, len) => Kind::Hash,
-        Question::AskSyndrome(start, len) => Kind::Syndrome,
-        Question::AskBits(start, len) => Kind::Bits,
-        Question::AskBurst(start, len, b) => Kind::Burst,
-    }
-}
-
-fn question_burst(q: Question) -> u32
-    ensures { result ≡ question_burst q }
-{
-    match q {
-        Question::AskOpen(h, key) => 0,
-        Question::AskHash(start, len) => 0,
-        Question::AskSyndrome(start, len) => 0,
-        Question::AskBits(start, len) => 0,
-        Question::AskBurst(start, len, b) => b,
+        Question::AskOpen(_, _) => (Kind::Open, 0, 0),
+        Question::AskHash(_, len) => (Kind::Hash, len, 0),
+        Question::AskSyndrome(_, len) => (Kind::Syndrome, len, 0),
+        Question::AskBits(_, len) => (Kind::Bits, len, 0),
+        Question::AskBurst(_, len, b) => (Kind::Burst, len, b),
     }
 }
 
@@ -196,14 +141,15 @@ fn hear(
     ensures { said_rebuilder result string.new question.new
         ≡ asked_outcome st y.now msg.now rows q string.old question.old }
 {
-    let len = question_length(q);
-    let kind = question_kind(q);
-    let b = question_burst(q);
-    let read = messages::read_answer(kind, len, b, st.settings.h, msg);
-    if !is_enough_for_answer(st, read, string.len(), rows, question.len()) {
+    let (kind, len, b) = awaited(q);
+    let found = match messages::read_answer(kind, len, b, st.settings.h, msg) {
+        Err(e) => return refuse(st, e),
+        Ok(found) => found,
+    };
+    if !is_enough_for_answer(st, found, string.len(), rows, question.len()) {
         return refuse(st, Refusal::BufferTooShort);
     }
-    take(st, y, msg, len, b, read, string, question)
+    take(st, y, msg, len, b, found, string, question)
 }
 
 // The rebuilder's call on Y, its bit count, a message, the number of lent rows, and the buffers for the string and the question.
@@ -219,18 +165,15 @@ pub fn rebuilder_call(
     ensures { said_rebuilder result string.new question.new
         ≡ rebuilder_outcome st y.now bits msg.now rows string.old question.old }
 {
-    if !both(
-        strings::keeps_string_rule(y, bits),
-        (st.ybits as usize) == bits,
-    ) {
+    if !strings::keeps_string_rule(y, bits) || st.ybits as usize != bits {
         return refuse(st, Refusal::BadString);
     }
     if !rebuilder_is_sound(st) {
         return refuse(st, Refusal::OutOfTurn);
     }
     match state::plan_next(st) {
-        Plan::Finished => refuse(st, Refusal::OutOfTurn),
-        Plan::Ask(q) => hear(st, y, msg, rows, q, string, question),
+        None => refuse(st, Refusal::OutOfTurn),
+        Some(q) => hear(st, y, msg, rows, q, string, question),
     }
 }
 
@@ -252,10 +195,10 @@ fn no_rebuilder() -> Rebuilder
 
 // A start that is turned down.
 fn not_begun(e: Refusal) -> StartOut
-    ensures { result ≡ record { answer = NotBegun e; state = no_rebuilder } }
+    ensures { result ≡ record { answer = Err e; state = no_rebuilder } }
 {
     StartOut {
-        answer: StartAnswer::NotBegun(e),
+        answer: Err(e),
         state: no_rebuilder(),
     }
 }
@@ -275,9 +218,9 @@ pub fn rebuilder_start(settings: Settings, y: &[u8], bits: usize, question: &mut
     }
     match messages::write_question(Question::AskOpen(settings.h, settings.key), question) {
         // Never: the opening takes at most QUESTION_BYTES, kind, version, h and key of 1, 1, 1 and up to 5 bytes.
-        WriteResult::TooShort => not_begun(Refusal::BufferTooShort),
-        WriteResult::Written(size) => StartOut {
-            answer: StartAnswer::Begun(size),
+        Err(e) => not_begun(e),
+        Ok(size) => StartOut {
+            answer: Ok(size),
             state: state::fresh_rebuilder(settings, bits as u32),
         },
     }

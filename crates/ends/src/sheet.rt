@@ -9,15 +9,11 @@ use crate::rebuilding::{RebuilderOut, rebuilder_call};
 use crate::{Rebuilder, Row, SheetChange};
 
 // A row of zeros.
-fn no_row() -> Row
-    ensures { result ≡ no_row }
-{
-    Row {
-        start: 0,
-        len: 0,
-        how: 0,
-    }
-}
+const NO_ROW: Row = Row {
+    start: 0,
+    len: 0,
+    how: 0,
+};
 
 // A row is written at its index.
 pub fn write_row(sheet: &mut [Row], at: usize, row: Row)
@@ -32,11 +28,8 @@ pub fn clear_rows(sheet: &mut [Row], from: usize, to: usize)
     requires { to ≤ length sheet.old }
     ensures { sheet.new ≡ sets sheet.old from (replicate (to - from) no_row) }
 {
-    let mut i = from;
-    while i < to {
-        let zeros = no_row();
-        write_row(sheet, i, zeros);
-        i += 1;
+    if from < to {
+        sheet[from..to].fill(NO_ROW);
     }
 }
 
@@ -47,9 +40,7 @@ pub fn apply_change(sheet: &mut [Row], change: SheetChange)
 {
     match change {
         SheetChange::NoRow => {}
-        SheetChange::AddRow(index, row) => {
-            write_row(sheet, index as usize, row);
-        }
+        SheetChange::AddRow(index, row) => write_row(sheet, index as usize, row),
         SheetChange::OneRow(used, row) => {
             write_row(sheet, 0, row);
             clear_rows(sheet, 1, used as usize);
@@ -71,7 +62,6 @@ pub fn rebuilder_call_on_sheet(
         ≡ sheet_outcome st y.now bits msg.now sheet.old string.old question.old }
 {
     let out = rebuilder_call(st, y, bits, msg, sheet.len(), string, question);
-    let change = out.sheet;
-    apply_change(sheet, change);
+    apply_change(sheet, out.sheet);
     out
 }

@@ -8,31 +8,31 @@ ghost use Rattle.ends.specs.code.StateCode.{Usable};
 ghost use Rattle.ends.specs.code.SoundCode.{Sized, Work, Sum};
 
 use crate::state::{is_burst, too_small, top, wide};
-use crate::{Attempt, Holder, LONGEST_NUMBERS, MOST_ANSWERS, Phase, Piece, Rebuilder, Stage};
-use strings::{MOST_BITS, Settings, both, is_between, is_hash_width};
+use crate::{
+    Attempt, Holder, LONGEST_NUMBERS, MOST_ANSWERS, NO_PIECE, Phase, Piece, Rebuilder, Stage,
+};
+use strings::{MOST_BITS, Settings, is_between, is_hash_width};
 
 // Whether a run can hold the holder's state.
+#[tactic(auto, unfolding(crate::specs::Soundness::holder_sound))]
 pub fn holder_is_sound(st: Holder) -> bool
     ensures { result ≡ holder_sound st }
 {
     if st.opened {
-        let rest = both(
-            is_hash_width(st.h),
-            both(1 <= st.key, is_between(1, st.answers, MOST_ANSWERS)),
-        );
-        return both(st.bits <= MOST_BITS, rest);
+        return st.bits <= MOST_BITS
+            && is_hash_width(st.h)
+            && 1 <= st.key
+            && is_between(1, st.answers, MOST_ANSWERS);
     }
-    both(
-        st.bits == 0,
-        both(st.h == 0, both(st.key == 0, st.answers == 0)),
-    )
+    st.bits == 0 && st.h == 0 && st.key == 0 && st.answers == 0
 }
 
 // Whether no field of the piece is set.
+#[tactic(auto, unfolding(crate::specs::Soundness::is_blank))]
 fn is_blank(pc: Piece) -> bool
     ensures { result ≡ is_blank pc }
 {
-    both(pc.x == 0, both(pc.p == 0, both(pc.y == 0, pc.q == 0)))
+    pc == NO_PIECE
 }
 
 // Whether all entries behind the waiting pieces are zeros. All are looked at, also after one that is not: a
@@ -42,11 +42,8 @@ fn blank_behind(st: Rebuilder) -> bool
     ensures { result ≡ blank_from st.pieces (32 - st.waiting) st.waiting }
 {
     let mut blank = true;
-    let mut i = st.waiting as usize;
-    while i < 32 {
-        let pc = st.pieces[i];
-        blank = both(is_blank(pc), blank);
-        i += 1;
+    for i in st.waiting as usize..32 {
+        blank &= is_blank(st.pieces[i]);
     }
     blank
 }
@@ -56,15 +53,14 @@ fn length_bound(d: u32) -> u32
     ensures { result ≡ bound d }
 {
     let mut b = MOST_BITS;
-    let mut i: u32 = 0;
-    while i < d {
+    for _ in 0..d {
         b = 5 * b / 8;
-        i += 1;
     }
     b
 }
 
 // Whether a waiting piece with d others to its right begins at x and y or later, ends by n and e, and is not too long.
+#[tactic(auto, unfolding(crate::specs::Soundness::piece_fits))]
 fn piece_fits(n: u64, e: u64, x: u64, y: u64, d: u32, pc: Piece) -> bool
     ensures { result ≡ piece_fits n e x y d pc }
 {
@@ -72,8 +68,7 @@ fn piece_fits(n: u64, e: u64, x: u64, y: u64, d: u32, pc: Piece) -> bool
     let b = wide(pc.y);
     let p = wide(pc.p);
     let q = wide(pc.q);
-    let ends = both(a + p <= n, both(b + q <= e, pc.p <= length_bound(d)));
-    both(x <= a, both(y <= b, both(0 < pc.p, ends)))
+    x <= a && y <= b && 0 < pc.p && a + p <= n && b + q <= e && pc.p <= length_bound(d)
 }
 
 // Whether the waiting pieces, from the leftmost on, follow one another.
@@ -85,11 +80,8 @@ fn in_order(st: Rebuilder) -> bool
     let e = wide(st.ybits);
     let mut x: u64 = 0;
     let mut y: u64 = 0;
-    let mut i = st.waiting;
-    while 0 < i {
-        i -= 1;
-        let at = i as usize;
-        let pc = st.pieces[at];
+    for i in (0..st.waiting).rev() {
+        let pc = st.pieces[i as usize];
         if !piece_fits(n, e, x, y, i, pc) {
             return false;
         }
@@ -106,16 +98,15 @@ fn work_left(st: Rebuilder, a: u64, b: u64) -> u64
 {
     let m = wide(st.settings.m);
     let mut sum: u64 = 0;
-    let mut i = st.waiting;
-    while 0 < i {
-        i -= 1;
-        let at = i as usize;
-        let pc = st.pieces[at];
-        let p = wide(pc.p);
-        sum = sum + (a * (p / m) + b);
+    for i in (0..st.waiting).rev() {
+        let p = wide(st.pieces[i as usize].p);
+        sum += a * (p / m) + b;
     }
     sum
 }
+
+// That the limits hold (Sized) stays a clause of the tests below: a value round the state would stand before each of the fields that they
+// read, and is no plainer.
 
 // Whether the used rows and those to come are within the sheet's.
 fn rows_fit(st: Rebuilder) -> bool
@@ -134,16 +125,11 @@ fn asks_before(t: Stage) -> u32
     ensures { result ≡ asks_before t }
 {
     match t {
-        Stage::Hashing => 0,
-        Stage::PuttingIn => 0,
-        Stage::TakingOut => 0,
-        Stage::Anchor(i) => match i {
-            Attempt::First => 1,
-            Attempt::Second => 2,
-            Attempt::Third => 3,
-        },
+        Stage::Hashing | Stage::PuttingIn | Stage::TakingOut | Stage::Columns => 0,
+        Stage::Anchor(Attempt::First) => 1,
+        Stage::Anchor(Attempt::Second) => 2,
+        Stage::Anchor(Attempt::Third) => 3,
         Stage::AllBits => 4,
-        Stage::Columns => 0,
     }
 }
 
@@ -155,8 +141,7 @@ fn asks_fit(st: Rebuilder) -> bool
     let n = wide(st.n);
     let m = wide(st.settings.m);
     let answered = wide(st.answered);
-    let stage = st.stage;
-    let before = wide(asks_before(stage));
+    let before = wide(asks_before(st.stage));
     let left = work_left(st, 9, 5);
     answered + left <= 9 * (n / m) + 6 + before
 }
@@ -192,35 +177,29 @@ fn stage_fits(s: Settings, p: u32, q: u32, t: Stage) -> bool
 fn is_hashing(t: Stage) -> bool
     ensures { result ≡ is_hashing t }
 {
-    match t {
-        Stage::Hashing => true,
-        Stage::PuttingIn => false,
-        Stage::TakingOut => false,
-        Stage::Anchor(i) => false,
-        Stage::AllBits => false,
-        Stage::Columns => false,
-    }
+    matches!(t, Stage::Hashing)
 }
 
 // Whether the stage suits the leftmost piece; it is Hashing if none waits.
+#[tactic(auto, unfolding(crate::specs::Soundness::top_fits))]
 fn top_stage_fits(st: Rebuilder) -> bool
     requires { Sized st }
     ensures { result ≡ top_fits st }
 {
-    let stage = st.stage;
     if st.waiting == 0 {
-        return is_hashing(stage);
+        return is_hashing(st.stage);
     }
     let pc = top(st);
-    stage_fits(st.settings, pc.p, pc.q, stage)
+    stage_fits(st.settings, pc.p, pc.q, st.stage)
 }
 
 // Whether the waiting pieces, the stage and the used rows are such as a run can hold.
+#[tactic(auto, unfolding(crate::specs::Soundness::stack_sound))]
 fn stack_is_sound(st: Rebuilder) -> bool
     requires { Sized st }
     ensures { result ≡ stack_sound st }
 {
-    both(top_stage_fits(st), both(in_order(st), rows_fit(st)))
+    top_stage_fits(st) && in_order(st) && rows_fit(st)
 }
 
 // The bytes of the answer with all n bits.
@@ -236,11 +215,7 @@ fn answer_bound(n: u32) -> u32
     requires { n ≤ max_bits }
     ensures { result ≡ longest_answer n }
 {
-    let f = full_size(n);
-    if f < LONGEST_NUMBERS {
-        return LONGEST_NUMBERS;
-    }
-    f
+    full_size(n).max(LONGEST_NUMBERS)
 }
 
 // The most bytes that can be counted while pieces are worked on.
@@ -255,35 +230,39 @@ fn most_counted(st: Rebuilder) -> u32
 }
 
 // For a state that awaits the opening's answer.
+#[tactic(auto, unfolding(crate::specs::Soundness::opening_sound))]
 fn opening_is_sound(st: Rebuilder) -> bool
     ensures { result ≡ opening_sound st }
 {
-    let stage = st.stage;
-    let rest = both(st.rows == 0, both(is_hashing(stage), st.waiting == 0));
-    both(
-        st.n == 0,
-        both(st.answered == 0, both(st.counted == 0, rest)),
-    )
+    st.n == 0
+        && st.answered == 0
+        && st.counted == 0
+        && st.rows == 0
+        && is_hashing(st.stage)
+        && st.waiting == 0
 }
 
 // For a state that works on pieces, or is finished.
+#[tactic(auto, unfolding(crate::specs::Soundness::pieces_sound))]
 fn pieces_are_sound(st: Rebuilder) -> bool
     requires { Sized st }
     ensures { result ≡ pieces_sound st }
 {
-    let counts = both(asks_fit(st), st.counted <= most_counted(st));
-    both(stack_is_sound(st), both(1 <= st.answered, counts))
+    stack_is_sound(st) && 1 <= st.answered && asks_fit(st) && st.counted <= most_counted(st)
 }
 
 // For a state that awaits all bits.
+#[tactic(auto, unfolding(crate::specs::Soundness::whole_sound))]
 fn whole_is_sound(st: Rebuilder) -> bool
     requires { Sized st }
     ensures { result ≡ whole_sound st }
 {
-    let past = st.settings.ceiling < st.counted;
-    let count = both(past, st.counted <= st.settings.ceiling + answer_bound(st.n));
-    let rest = both(last_ask_fits(st), both(0 < st.waiting, count));
-    both(stack_is_sound(st), both(1 <= st.answered, rest))
+    stack_is_sound(st)
+        && 1 <= st.answered
+        && last_ask_fits(st)
+        && 0 < st.waiting
+        && st.settings.ceiling < st.counted
+        && st.counted <= st.settings.ceiling + answer_bound(st.n)
 }
 
 // By phase.
@@ -291,8 +270,7 @@ fn phase_is_sound(st: Rebuilder) -> bool
     requires { Sized st }
     ensures { result ≡ phase_sound st }
 {
-    let phase = st.phase;
-    match phase {
+    match st.phase {
         Phase::AtOpening => opening_is_sound(st),
         Phase::AtPieces => pieces_are_sound(st),
         Phase::AtWhole => whole_is_sound(st),
@@ -300,6 +278,7 @@ fn phase_is_sound(st: Rebuilder) -> bool
 }
 
 // Whether a run can hold the rebuilder's state. The limits come first: the later tests count on them.
+#[tactic(auto, unfolding(crate::specs::Soundness::sound))]
 pub fn rebuilder_is_sound(st: Rebuilder) -> bool
     ensures { result ≡ sound st }
 {
@@ -315,5 +294,5 @@ pub fn rebuilder_is_sound(st: Rebuilder) -> bool
     if 32 < st.waiting {
         return false;
     }
-    both(blank_behind(st), phase_is_sound(st))
+    blank_behind(st) && phase_is_sound(st)
 }

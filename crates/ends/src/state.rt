@@ -3,87 +3,38 @@
 ghost use Rattle.std.specs.Prelude.{◌≡◌, true, cond, ◌&&◌, ◌+◌, ◌-◌, ◌*◌, ◌/◌, ◌≤◌, ◌<◌};
 ghost use Rattle.ends.specs.Anchors.{distance};
 ghost use Rattle.ends.specs.Segments.{too_small, is_burst, later_stage, first_stage, next_stage, after_anchor, offset, asks};
-ghost use Rattle.ends.specs.States.{stacked, top, popped, pushed, restaged, retried, split_at, planned};
-ghost use Rattle.ends.specs.RebuilderCall.{counting, tallied, opening_step, whole_state, fresh_rebuilder};
+ghost use Rattle.ends.specs.States.{top, popped, pushed, restaged, retried, split_at, planned};
+ghost use Rattle.ends.specs.RebuilderCall.{tallied, opening_step, whole_state, fresh_rebuilder};
 ghost use Rattle.ends.specs.declared.Phase.TheVariants.{AtPieces, AtWhole};
 ghost use Rattle.ends.specs.code.StateCode.{plan_of, Usable, Holds, Stages, Retries, Offsets, Splits, Counts, Asks, Plans};
 
 use crate::{Attempt, NO_PIECE, Phase, Piece, Rebuilder, Stage};
 use messages::Question;
-use strings::{Settings, both};
-
-// What comes next: a question, or nothing after the finish.
-#[derive(Clone, Copy)]
-pub enum Plan {
-    Ask(Question),
-    Finished,
-}
-
-// The state with another stage and other pieces. A field that is an enum can't be stored to, so that the state is written anew.
-fn with_stack(st: Rebuilder, stage: Stage, waiting: u32, pieces: [Piece; 32]) -> Rebuilder
-    ensures { result ≡ stacked st stage waiting pieces }
-{
-    let settings = st.settings;
-    let phase = st.phase;
-    Rebuilder {
-        settings: settings,
-        ybits: st.ybits,
-        phase: phase,
-        n: st.n,
-        answered: st.answered,
-        counted: st.counted,
-        rows: st.rows,
-        stage: stage,
-        waiting: waiting,
-        pieces: pieces,
-    }
-}
-
-// The state with another phase and other counts.
-fn with_counts(st: Rebuilder, phase: Phase, answered: u32, counted: u32, rows: u32) -> Rebuilder
-    ensures { result ≡ counting st phase answered counted rows }
-{
-    let settings = st.settings;
-    let stage = st.stage;
-    let pieces = st.pieces;
-    Rebuilder {
-        settings: settings,
-        ybits: st.ybits,
-        phase: phase,
-        n: st.n,
-        answered: answered,
-        counted: counted,
-        rows: rows,
-        stage: stage,
-        waiting: st.waiting,
-        pieces: pieces,
-    }
-}
+use strings::Settings;
 
 // The leftmost waiting piece.
+#[tactic(auto, unfolding(crate::specs::States::top))]
 pub fn top(st: Rebuilder) -> Piece
     requires { Holds st }
     ensures { result ≡ top st }
 {
-    let i = (st.waiting - 1) as usize;
-    let pc = st.pieces[i];
-    pc
+    st.pieces[(st.waiting - 1) as usize]
 }
 
 // The state without the leftmost waiting piece.
+#[tactic(auto, unfolding(crate::specs::States::popped))]
 pub fn pop(st: Rebuilder) -> Rebuilder
     requires { Holds st }
     ensures { result ≡ popped st }
 {
     let mut s = st;
-    let w = s.waiting - 1;
-    let last = w as usize;
-    s.pieces[last] = NO_PIECE;
-    s.waiting = w;
+    s.waiting -= 1;
+    s.pieces[s.waiting as usize] = NO_PIECE;
     s
 }
 
 // The state with one more piece, unless this is empty.
+#[tactic(auto, unfolding(crate::specs::States::pushed))]
 fn push(st: Rebuilder, pc: Piece) -> Rebuilder
     requires { st.waiting < 32 }
     ensures { result ≡ pushed st pc }
@@ -92,32 +43,33 @@ fn push(st: Rebuilder, pc: Piece) -> Rebuilder
         return st;
     }
     let mut s = st;
-    let w = s.waiting;
-    let i = w as usize;
-    s.pieces[i] = pc;
-    s.waiting = w + 1;
+    s.pieces[s.waiting as usize] = pc;
+    s.waiting += 1;
     s
 }
 
-// The same number, wider: a sum of two such numbers can't overflow.
+// The same number, wider: a sum of two such numbers can't overflow. std's conversion says the value alone, and of a field of a piece in an
+// array nothing else tells the bound.
 pub fn wide(v: u32) -> u64
     ensures { (result ≡ v) × (result ≤ 4294967295) }
 {
     v as u64
 }
 
+// That the settings are within their limits (Usable) stays a clause here and below: the states keep settings of any numbers, as a host's bytes
+// say them, and a checked copy made at each call would be no plainer.
+
 // Whether a piece is too small for anchors.
+#[tactic(auto, unfolding(crate::specs::Segments::too_small))]
 pub fn too_small(s: Settings, p: u32, q: u32) -> bool
     requires { Usable s }
     ensures { result ≡ too_small s p q }
 {
-    if p < 4 * (s.m + s.h) {
-        return true;
-    }
-    q < s.m
+    p < 4 * (s.m + s.h) || q < s.m
 }
 
 // The stage of step 4.
+#[tactic(auto, unfolding(crate::specs::Segments::later_stage))]
 fn later_stage(s: Settings, p: u32, q: u32) -> Stage
     requires { Usable s }
     ensures { result ≡ later_stage s p q }
@@ -132,10 +84,7 @@ fn later_stage(s: Settings, p: u32, q: u32) -> Stage
 pub fn length_distance(p: u32, q: u32) -> u32
     ensures { result ≡ distance p q }
 {
-    if p < q {
-        return q - p;
-    }
-    p - q
+    p.abs_diff(q)
 }
 
 // Whether they differ by 2 to 32 (02, CR 1).
@@ -184,40 +133,41 @@ fn next_stage(s: Settings, p: u32, q: u32, t: Stage) -> Stage
     ensures { result ≡ next_stage s p q t }
 {
     match t {
-        Stage::Hashing => later_stage(s, p, q),
-        Stage::PuttingIn => later_stage(s, p, q),
-        Stage::TakingOut => later_stage(s, p, q),
+        Stage::Hashing | Stage::PuttingIn | Stage::TakingOut | Stage::Columns => later_stage(
+            s, p, q,
+        ),
         Stage::Anchor(i) => after_anchor(i),
         Stage::AllBits => Stage::AllBits,
-        Stage::Columns => later_stage(s, p, q),
     }
 }
 
 // The leftmost piece is at its first stage.
+#[tactic(auto, unfolding(crate::specs::States::restaged, crate::specs::States::top))]
 pub fn restage(st: Rebuilder) -> Rebuilder
     requires { Stages st }
     ensures { result ≡ restaged st }
 {
-    let pieces = st.pieces;
     if st.waiting == 0 {
-        return with_stack(st, Stage::Hashing, st.waiting, pieces);
+        return Rebuilder {
+            stage: Stage::Hashing,
+            ..st
+        };
     }
     // Not by `top`, which would copy the state once more.
     let pc = st.pieces[(st.waiting - 1) as usize];
-    let t = first_stage(st.settings, pc.p, pc.q);
-    with_stack(st, t, st.waiting, pieces)
+    let stage = first_stage(st.settings, pc.p, pc.q);
+    Rebuilder { stage, ..st }
 }
 
 // The leftmost piece is at the stage after its own.
+#[tactic(auto, unfolding(crate::specs::States::retried))]
 pub fn retry(st: Rebuilder) -> Rebuilder
     requires { Retries st }
     ensures { result ≡ retried st }
 {
     let pc = top(st);
-    let stage = st.stage;
-    let t = next_stage(st.settings, pc.p, pc.q, stage);
-    let pieces = st.pieces;
-    with_stack(st, t, st.waiting, pieces)
+    let stage = next_stage(st.settings, pc.p, pc.q, st.stage);
+    Rebuilder { stage, ..st }
 }
 
 // The offset of an anchor.
@@ -260,20 +210,27 @@ pub fn split_at(st: Rebuilder, s: u32, r: u32) -> Rebuilder
 fn phase_after(past: bool, waits: bool) -> Phase
     ensures { result ≡ cond (past && waits) AtWhole AtPieces }
 {
-    if both(past, waits) {
+    if past && waits {
         return Phase::AtWhole;
     }
     Phase::AtPieces
 }
 
 // An answer of size bytes and the rows that it brought are counted; past the ceiling, if pieces wait, all bits are asked for.
+#[tactic(auto, unfolding(crate::specs::RebuilderCall::tallied))]
 pub fn tally(st: Rebuilder, size: u32, rows: u32) -> Rebuilder
     requires { Counts st size rows }
     ensures { result ≡ tallied st size rows }
 {
     let counted = st.counted + size;
     let phase = phase_after(st.settings.ceiling < counted, 0 < st.waiting);
-    with_counts(st, phase, st.answered + 1, counted, st.rows + rows)
+    Rebuilder {
+        phase,
+        answered: st.answered + 1,
+        counted,
+        rows: st.rows + rows,
+        ..st
+    }
 }
 
 // The state after the opening's answer n: the first piece is all of both strings.
@@ -281,22 +238,19 @@ pub fn open_state(st: Rebuilder, n: u32) -> Rebuilder
     requires { Usable st.settings × (st.answered < 4294967295) }
     ensures { result ≡ (opening_step st n).state }
 {
-    let settings = st.settings;
-    let pieces = st.pieces;
-    let s = Rebuilder {
-        settings: settings,
-        ybits: st.ybits,
+    let answered = st.answered + 1;
+    let opened = Rebuilder {
         phase: Phase::AtPieces,
-        n: n,
-        answered: st.answered + 1,
+        n,
+        answered,
         counted: 0,
         rows: 0,
         stage: Stage::Hashing,
         waiting: 0,
-        pieces: pieces,
+        ..st
     };
     restage(push(
-        s,
+        opened,
         Piece {
             x: 0,
             p: n,
@@ -307,12 +261,21 @@ pub fn open_state(st: Rebuilder, n: u32) -> Rebuilder
 }
 
 // The state after an answer of size bytes with all bits.
+#[tactic(auto, unfolding(crate::specs::RebuilderCall::whole_state))]
 pub fn whole_state(st: Rebuilder, size: u32) -> Rebuilder
     requires { Counts st size 0 }
     ensures { result ≡ whole_state st size }
 {
-    let one = with_counts(st, Phase::AtPieces, st.answered + 1, st.counted + size, 1);
-    with_stack(one, Stage::Hashing, 0, [NO_PIECE; 32])
+    Rebuilder {
+        phase: Phase::AtPieces,
+        answered: st.answered + 1,
+        counted: st.counted + size,
+        rows: 1,
+        stage: Stage::Hashing,
+        waiting: 0,
+        pieces: [NO_PIECE; 32],
+        ..st
+    }
 }
 
 // The state at the start, for a copy of that many bits.
@@ -320,7 +283,7 @@ pub fn fresh_rebuilder(settings: Settings, bits: u32) -> Rebuilder
     ensures { result ≡ fresh_rebuilder settings bits }
 {
     Rebuilder {
-        settings: settings,
+        settings,
         ybits: bits,
         phase: Phase::AtOpening,
         n: 0,
@@ -348,22 +311,19 @@ fn ask_for(s: Settings, t: Piece, stage: Stage) -> Question
     }
 }
 
-// What the state asks next.
-pub fn plan_next(st: Rebuilder) -> Plan
+// What the state asks next: nothing after the finish.
+pub fn plan_next(st: Rebuilder) -> Option<Question>
     requires { Plans st }
     ensures { result ≡ plan_of (planned st) }
 {
-    let phase = st.phase;
-    match phase {
-        Phase::AtOpening => Plan::Ask(Question::AskOpen(st.settings.h, st.settings.key)),
-        Phase::AtWhole => Plan::Ask(Question::AskBits(0, st.n)),
+    match st.phase {
+        Phase::AtOpening => Some(Question::AskOpen(st.settings.h, st.settings.key)),
+        Phase::AtWhole => Some(Question::AskBits(0, st.n)),
         Phase::AtPieces => {
             if st.waiting == 0 {
-                return Plan::Finished;
+                return None;
             }
-            let t = top(st);
-            let stage = st.stage;
-            Plan::Ask(ask_for(st.settings, t, stage))
+            Some(ask_for(st.settings, top(st), st.stage))
         }
     }
 }

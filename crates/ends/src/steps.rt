@@ -3,7 +3,7 @@
 ghost use Rattle.std.specs.Prelude.{◌≡◌, true, List, ℕ, ◌+◌, ◌*◌, ◌≤◌, ◌<◌, length, take};
 ghost use Rattle.strings.specs.Bits.{range, bytes_for, max_bits, at_front};
 ghost use Rattle.messages.specs.Answers.{size_answer, hash_answer, syndrome_answer, bits_answer, burst_answer};
-ghost use Rattle.ends.specs.Segments.{how_number, row};
+ghost use Rattle.ends.specs.Segments.{row};
 ghost use Rattle.ends.specs.States.{top, popped, restaged, retried, split_at, planned};
 ghost use Rattle.ends.specs.Soundness.{sound};
 ghost use Rattle.ends.specs.declared.Rebuilder.{Rebuilder};
@@ -15,52 +15,42 @@ ghost use Rattle.ends.specs.RebuilderOutcome.{said_rebuilder};
 ghost use Rattle.ends.specs.code.StateCode.{plan_of};
 ghost use Rattle.ends.specs.code.RebuilderParts.{next_answer, OutIs, Acting, Splitting, Lending, Retriable, RepairDue, BurstDue, burst_of, AsksBits, bits_of_stage, repair_how, step_outcome, WholeDue, Opening, BitsDue, due_length};
 
-use crate::anchors::Place;
-use crate::rebuilding::{RebuilderAnswer, RebuilderOut};
-use crate::state::Plan;
-use crate::{Attempt, How, Phase, Rebuilder, Row, SheetChange, Stage, anchors, state};
-use messages::WriteResult;
+use crate::rebuilding::RebuilderOut;
+use crate::{Attempt, How, Phase, Piece, Rebuilder, Row, SheetChange, Stage, anchors, state};
+use codes::{HashKey, Run};
+use messages::Question;
+use strings::{BitRange, Refusal};
 
-// The number of how.
-fn how_number(how: How) -> u32
-    ensures { result ≡ how_number how }
-{
-    match how {
-        How::ByHash => 1,
-        How::ByPutIn => 2,
-        How::ByTakeOut => 3,
-        How::ByAnchor => 4,
-        How::ByBits => 5,
-        How::ByBurst => 6,
-    }
-}
-
-// What a call gives that was taken.
-fn give(answer: RebuilderAnswer, s: Rebuilder, change: SheetChange) -> RebuilderOut
-    ensures { result ≡ record { answer = answer; state = s; sheet = change; answered = s.answered; counted = s.counted } }
+// What a call gives: beside its answer and the state, the counts of that state.
+pub fn give(
+    answer: Result<Option<usize>, Refusal>,
+    state: Rebuilder,
+    sheet: SheetChange,
+) -> RebuilderOut
+    ensures { result ≡ record { answer = answer; state = state; sheet = sheet; answered = state.answered; counted = state.counted } }
 {
     RebuilderOut {
-        answer: answer,
-        state: s,
-        sheet: change,
-        answered: s.answered,
-        counted: s.counted,
+        answer,
+        state,
+        sheet,
+        answered: state.answered,
+        counted: state.counted,
     }
 }
 
 // What is planned is written as the next question. The state stays with `finish`, where it is copied once, and not in each case here.
-fn ask(plan: Plan, question: &mut [u8]) -> RebuilderAnswer
+fn ask(plan: Option<Question>, question: &mut [u8]) -> Result<Option<usize>, Refusal>
     requires { 8 ≤ length question.old }
     ensures { (s : Rebuilder) → sound s ≡ true → plan ≡ plan_of (planned s) → (result ≡ next_answer (written_question (planned s)))
         × (question.new ≡ at_front (written_question (planned s)) question.old) }
 {
     match plan {
-        Plan::Finished => RebuilderAnswer::Finished,
-        Plan::Ask(q) => match messages::write_question(q, question) {
-            // Never: no question is longer than the 8 bytes that are required here.
-            WriteResult::TooShort => RebuilderAnswer::Finished,
-            WriteResult::Written(size) => RebuilderAnswer::Asks(size),
-        },
+        None => Ok(None),
+        Some(q) => {
+            // Never turned down: no question is longer than the 8 bytes that are required here.
+            let size = messages::write_question(q, question)?;
+            Ok(Some(size))
+        }
     }
 }
 
@@ -69,84 +59,122 @@ fn finish(s: Rebuilder, change: SheetChange, question: &mut [u8]) -> RebuilderOu
     requires { (sound s ≡ true) × (8 ≤ length question.old) }
     ensures { OutIs result s change question.old question.new }
 {
-    let plan = state::plan_next(s);
-    let answer = ask(plan, question);
+    let answer = ask(state::plan_next(s), question);
     give(answer, s, change)
 }
 
+// An answer of `size` bytes to what a sound state asks of its leftmost piece, and the copy Y.
+#[derive(Clone, Copy)]
+pub struct Turn<'a> {
+    pub st: Rebuilder,
+    pub y: &'a [u8],
+    pub size: u32,
+    ghost acting: { Acting st size 8 },
+    ghost copy: { st.ybits ≤ 8 * length y.now },
+}
+
+impl<'a> Turn<'a> {
+    // The answer that stands in a message.
+    pub fn new(st: Rebuilder, y: &'a [u8], msg: &[u8]) -> Turn<'a>
+        requires acting { Acting st (length msg.now) 8 }
+        requires copy { st.ybits ≤ 8 * length y.now }
+        ensures st { result.st ≡ st }
+        ensures y { result.y.now ≡ y.now }
+        ensures size { result.size ≡ length msg.now }
+    {
+        Turn {
+            st,
+            y,
+            size: msg.len() as u32,
+        }
+    }
+
+    // The leftmost piece.
+    fn piece(self) -> Piece
+        ensures { result ≡ top self.entry.st }
+    {
+        state::top(self.st)
+    }
+
+    // The settings' hash.
+    fn hash_key(self) -> HashKey
+        ensures { (result.key ≡ self.entry.st.settings.key) × (result.h ≡ self.entry.st.settings.h) }
+    {
+        HashKey {
+            key: self.st.settings.key,
+            h: self.st.settings.h,
+        }
+    }
+}
+
 // The leftmost piece is settled.
-fn settle(st: Rebuilder, size: u32, how: How, question: &mut [u8]) -> RebuilderOut
-    requires { Acting st size (length question.old) }
-    ensures { OutIs result (tallied (restaged (popped st)) size 1) (AddRow st.rows (row (top st).x (top st).p how)) question.old question.new }
+fn settle(turn: Turn, how: How, question: &mut [u8]) -> RebuilderOut
+    requires { 8 ≤ length question.old }
+    ensures { OutIs result (tallied (restaged (popped turn.entry.st)) turn.entry.size 1) (AddRow turn.entry.st.rows (row (top turn.entry.st).x (top turn.entry.st).p how)) question.old question.new }
 {
-    let t = state::top(st);
-    let one = state::pop(st);
+    let t = turn.piece();
+    let one = state::pop(turn.st);
     let two = state::restage(one);
-    let s = state::tally(two, size, 1);
-    let number = how_number(how);
+    let s = state::tally(two, turn.size, 1);
     let line = Row {
         start: t.x,
         len: t.p,
-        how: number,
+        how: u32::from(how),
     };
-    finish(s, SheetChange::AddRow(st.rows, line), question)
+    finish(s, SheetChange::AddRow(turn.st.rows, line), question)
 }
 
 // The leftmost piece is not settled, and goes to its next stage.
-fn leave_waiting(st: Rebuilder, size: u32, question: &mut [u8]) -> RebuilderOut
-    requires acting { Acting st size (length question.old) }
-    requires retriable { Retriable st.stage }
-    ensures { OutIs result (tallied (retried st) size 0) NoRow question.old question.new }
+fn leave_waiting(turn: Turn, question: &mut [u8]) -> RebuilderOut
+    requires question_room { 8 ≤ length question.old }
+    requires retriable { Retriable turn.st.stage }
+    ensures { OutIs result (tallied (retried turn.entry.st) turn.entry.size 0) NoRow question.old question.new }
 {
-    let one = state::retry(st);
-    let s = state::tally(one, size, 0);
+    let one = state::retry(turn.st);
+    let s = state::tally(one, turn.size, 0);
     finish(s, SheetChange::NoRow, question)
 }
 
 // The leftmost piece is split by the anchor of its stage, at offset s, placed at r.
-fn split(st: Rebuilder, size: u32, s: u32, r: u32, question: &mut [u8]) -> RebuilderOut
-    requires acting { Acting st size (length question.old) }
-    requires splitting { Splitting st s r }
-    ensures { OutIs result (tallied (split_at st s r) size 1) (AddRow st.rows (row ((top st).x + s) st.settings.m ByAnchor)) question.old question.new }
+fn split(turn: Turn, s: u32, r: u32, question: &mut [u8]) -> RebuilderOut
+    requires question_room { 8 ≤ length question.old }
+    requires splitting { Splitting turn.st s r }
+    ensures { OutIs result (tallied (split_at turn.entry.st s r) turn.entry.size 1) (AddRow turn.entry.st.rows (row ((top turn.entry.st).x + s) turn.entry.st.settings.m ByAnchor)) question.old question.new }
 {
-    let t = state::top(st);
-    let one = state::split_at(st, s, r);
-    let next = state::tally(one, size, 1);
-    let number = how_number(How::ByAnchor);
+    let t = turn.piece();
+    let one = state::split_at(turn.st, s, r);
+    let next = state::tally(one, turn.size, 1);
     let line = Row {
         start: t.x + s,
-        len: st.settings.m,
-        how: number,
+        len: turn.st.settings.m,
+        how: u32::from(How::ByAnchor),
     };
-    finish(next, SheetChange::AddRow(st.rows, line), question)
+    finish(next, SheetChange::AddRow(turn.st.rows, line), question)
 }
 
 // The hash v of a piece whose copy has its length: the copy is written if its hash is v.
-pub fn take_hash(
-    st: Rebuilder,
-    y: &[u8],
-    v: u32,
-    size: u32,
-    string: &mut [u8],
-    question: &mut [u8],
-) -> RebuilderOut
-    requires acting { Acting st size (length question.old) }
-    requires lending { Lending st y.now string.old }
-    requires stage_value { (st.stage ≡ Hashing) × ((top st).q ≡ (top st).p) }
+pub fn take_hash(turn: Turn, v: u32, string: &mut [u8], question: &mut [u8]) -> RebuilderOut
+    requires question_room { 8 ≤ length question.old }
+    requires string_room { turn.st.n ≤ 8 * length string.old }
+    requires stage_value { (turn.st.stage ≡ Hashing) × ((top turn.st).q ≡ (top turn.st).p) }
     ensures { said_rebuilder result string.new question.new
-        ≡ step_outcome st y.now size (hash_answer v) string.old question.old }
+        ≡ step_outcome turn.entry.st turn.entry.y.now turn.entry.size (hash_answer v) string.old question.old }
 {
-    let t = state::top(st);
-    let x = t.x as usize;
-    let p = t.p as usize;
-    let start = t.y as usize;
-    if codes::try_copy(y, start, p, v, st.settings.key, st.settings.h, string, x) {
-        return settle(st, size, How::ByHash, question);
+    let t = turn.piece();
+    let k = turn.hash_key();
+    let copy = BitRange {
+        bytes: turn.y,
+        start: t.y as usize,
+        len: t.p as usize,
+    };
+    if codes::try_copy(copy, v, k, string, t.x as usize) {
+        return settle(turn, How::ByHash, question);
     }
-    leave_waiting(st, size, question)
+    leave_waiting(turn, question)
 }
 
 // How a piece of p bits is repaired from a copy of q bits.
+#[tactic(auto, unfolding(crate::specs::code::RebuilderParts::repair_how))]
 fn repair_how(p: u32, q: u32) -> How
     requires { q ≤ max_bits }
     ensures { result ≡ repair_how p q }
@@ -159,136 +187,122 @@ fn repair_how(p: u32, q: u32) -> How
 
 // The syndrome a and hash v of a piece whose copy is one bit shorter or longer.
 pub fn take_syndrome(
-    st: Rebuilder,
-    y: &[u8],
+    turn: Turn,
     a: u32,
     v: u32,
-    size: u32,
     string: &mut [u8],
     question: &mut [u8],
 ) -> RebuilderOut
-    requires acting { Acting st size (length question.old) }
-    requires lending { Lending st y.now string.old }
-    requires repair_due { RepairDue st }
+    requires question_room { 8 ≤ length question.old }
+    requires string_room { turn.st.n ≤ 8 * length string.old }
+    requires repair_due { RepairDue turn.st }
     ensures { said_rebuilder result string.new question.new
-        ≡ step_outcome st y.now size (syndrome_answer a v) string.old question.old }
+        ≡ step_outcome turn.entry.st turn.entry.y.now turn.entry.size (syndrome_answer a v) string.old question.old }
 {
-    let t = state::top(st);
-    let x = t.x as usize;
-    let p = t.p as usize;
-    let start = t.y as usize;
-    let q = t.q as usize;
+    let t = turn.piece();
+    let k = turn.hash_key();
+    let copy = BitRange {
+        bytes: turn.y,
+        start: t.y as usize,
+        len: t.q as usize,
+    };
     let how = repair_how(t.p, t.q);
-    if codes::try_repair(
-        y,
-        start,
-        q,
-        p,
-        a as usize,
-        v,
-        st.settings.key,
-        st.settings.h,
-        string,
-        x,
-    ) {
-        return settle(st, size, how, question);
+    if codes::try_repair(copy, t.p as usize, a as usize, v, k, string, t.x as usize) {
+        return settle(turn, how, question);
     }
-    leave_waiting(st, size, question)
+    leave_waiting(turn, question)
 }
 
 // The syndromes a of the columns, at the front of the array, and the hash v of a piece whose copy is 2 to 32 bits shorter or longer.
 pub fn take_burst(
-    st: Rebuilder,
-    y: &[u8],
+    turn: Turn,
     a: [u32; 32],
     v: u32,
-    size: u32,
     string: &mut [u8],
     question: &mut [u8],
 ) -> RebuilderOut
-    requires acting { Acting st size (length question.old) }
-    requires lending { Lending st y.now string.old }
-    requires burst_due { BurstDue st }
+    requires question_room { 8 ≤ length question.old }
+    requires string_room { turn.st.n ≤ 8 * length string.old }
+    requires burst_due { BurstDue turn.st }
     ensures { said_rebuilder result string.new question.new
-        ≡ step_outcome st y.now size (burst_answer (take (burst_of st) a) v) string.old question.old }
+        ≡ step_outcome turn.entry.st turn.entry.y.now turn.entry.size (burst_answer (take (burst_of turn.entry.st) a) v) string.old question.old }
 {
-    let t = state::top(st);
+    let t = turn.piece();
     let b = state::length_distance(t.p, t.q);
-    if codes::try_run(
-        y,
-        t.y as usize,
-        t.q as usize,
-        t.p as usize,
-        b as usize,
-        a,
-        v,
-        st.settings.key,
-        st.settings.h,
-        string,
-        t.x as usize,
-    ) {
-        return settle(st, size, How::ByBurst, question);
+    let piece = BitRange {
+        bytes: turn.y,
+        start: t.y as usize,
+        len: t.q as usize,
+    };
+    let k = turn.hash_key();
+    let run = Run {
+        piece,
+        n: t.p as usize,
+        b: b as usize,
+    };
+    if codes::try_run(run, a, v, k, string, t.x as usize) {
+        return settle(turn, How::ByBurst, question);
     }
-    leave_waiting(st, size, question)
+    leave_waiting(turn, question)
 }
 
 // All bits of a piece.
-fn take_piece(
-    st: Rebuilder,
-    bits: &[u8],
-    size: u32,
-    string: &mut [u8],
-    question: &mut [u8],
-) -> RebuilderOut
-    requires acting { Acting st size (length question.old) }
-    requires n_bound { (st.n ≤ 8 * length string.old) × (st.stage ≡ AllBits) }
-    requires st_bound { (top st).p ≤ 8 * length bits.now }
+fn take_piece(turn: Turn, bits: &[u8], string: &mut [u8], question: &mut [u8]) -> RebuilderOut
+    requires question_room { 8 ≤ length question.old }
+    requires string_room { turn.st.n ≤ 8 * length string.old }
+    requires stage_value { turn.st.stage ≡ AllBits }
+    requires st_bound { (top turn.st).p ≤ 8 * length bits.now }
     ensures { (y : List ℕ) → said_rebuilder result string.new question.new
-        ≡ step_outcome st y size (bits_answer (range bits.now 0 (top st).p)) string.old question.old }
+        ≡ step_outcome turn.entry.st y turn.entry.size (bits_answer (range bits.now 0 (top turn.entry.st).p)) string.old question.old }
 {
-    let t = state::top(st);
-    strings::copy_bits(bits, 0, t.p as usize, string, t.x as usize);
-    settle(st, size, How::ByBits, question)
+    let t = turn.piece();
+    strings::copy_bits(
+        BitRange {
+            bytes: bits,
+            start: 0,
+            len: t.p as usize,
+        },
+        string,
+        t.x as usize,
+    );
+    settle(turn, How::ByBits, question)
 }
 
 // The m bits of an anchor.
 fn take_anchor(
-    st: Rebuilder,
+    turn: Turn,
     i: Attempt,
-    y: &[u8],
     bits: &[u8],
-    size: u32,
     string: &mut [u8],
     question: &mut [u8],
 ) -> RebuilderOut
-    requires acting { Acting st size (length question.old) }
-    requires lending { Lending st y.now string.old }
-    requires stage_value { st.stage ≡ Anchor i }
-    requires m_bound { st.settings.m ≤ 8 * length bits.now }
+    requires question_room { 8 ≤ length question.old }
+    requires string_room { turn.st.n ≤ 8 * length string.old }
+    requires stage_value { turn.st.stage ≡ Anchor i }
+    requires m_bound { turn.st.settings.m ≤ 8 * length bits.now }
     ensures { said_rebuilder result string.new question.new
-        ≡ step_outcome st y.now size (bits_answer (range bits.now 0 st.settings.m)) string.old question.old }
+        ≡ step_outcome turn.entry.st turn.entry.y.now turn.entry.size (bits_answer (range bits.now 0 turn.entry.st.settings.m)) string.old question.old }
 {
-    let t = state::top(st);
-    let m = st.settings.m as usize;
-    let k = st.settings.k as usize;
-    let s = state::anchor_offset(st.settings.m, t.p, i);
-    let place = anchors::place_anchor(
-        y,
-        t.y as usize,
-        t.q as usize,
-        t.p as usize,
-        s as usize,
-        m,
-        k,
-        bits,
-        0,
-    );
-    match place {
-        Place::Nowhere => leave_waiting(st, size, question),
-        Place::At(r) => {
+    let t = turn.piece();
+    let m = turn.st.settings.m as usize;
+    let k = turn.st.settings.k as usize;
+    let s = state::anchor_offset(turn.st.settings.m, t.p, i);
+    let copy = BitRange {
+        bytes: turn.y,
+        start: t.y as usize,
+        len: t.q as usize,
+    };
+    let anchor = BitRange {
+        bytes: bits,
+        start: 0,
+        len: m,
+    };
+    match anchors::place_anchor(copy, t.p as usize, s as usize, k, anchor) {
+        None => leave_waiting(turn, question),
+        Some(r) => {
             let x = (t.x + s) as usize;
-            strings::copy_bits(bits, 0, m, string, x);
-            split(st, size, s, r as u32, question)
+            strings::copy_bits(anchor, string, x);
+            split(turn, s, r as u32, question)
         }
     }
 }
@@ -307,12 +321,19 @@ fn take_whole(
         ≡ step_outcome st y size (bits_answer (range bits.now 0 st.n)) string.old question.old }
 {
     let s = state::whole_state(st, size);
-    strings::copy_bits(bits, 0, st.n as usize, string, 0);
-    let number = how_number(How::ByBits);
+    strings::copy_bits(
+        BitRange {
+            bytes: bits,
+            start: 0,
+            len: st.n as usize,
+        },
+        string,
+        0,
+    );
     let line = Row {
         start: 0,
         len: st.n,
-        how: number,
+        how: u32::from(How::ByBits),
     };
     finish(s, SheetChange::OneRow(st.rows, line), question)
 }
@@ -330,29 +351,22 @@ pub fn take_size(st: Rebuilder, n: u32, string: &mut [u8], question: &mut [u8]) 
 }
 
 // The bits of the leftmost piece that are awaited: an anchor's, or all.
-fn take_piece_bits(
-    st: Rebuilder,
-    y: &[u8],
-    bits: &[u8],
-    size: u32,
-    string: &mut [u8],
-    question: &mut [u8],
-) -> RebuilderOut
-    requires acting { Acting st size (length question.old) }
-    requires lending { Lending st y.now string.old }
-    requires asks_bits { AsksBits st.stage × (bits_of_stage st st.stage ≤ 8 * length bits.now) }
+fn take_piece_bits(turn: Turn, bits: &[u8], string: &mut [u8], question: &mut [u8]) -> RebuilderOut
+    requires question_room { 8 ≤ length question.old }
+    requires string_room { turn.st.n ≤ 8 * length string.old }
+    requires asks_bits { AsksBits turn.st.stage × (bits_of_stage turn.st turn.st.stage ≤ 8 * length bits.now) }
     ensures { said_rebuilder result string.new question.new
-        ≡ step_outcome st y.now size (bits_answer (range bits.now 0 (bits_of_stage st st.stage))) string.old question.old }
+        ≡ step_outcome turn.entry.st turn.entry.y.now turn.entry.size (bits_answer (range bits.now 0 (bits_of_stage turn.entry.st turn.entry.st.stage))) string.old question.old }
 {
-    let stage = st.stage;
-    match stage {
-        Stage::Anchor(i) => take_anchor(st, i, y, bits, size, string, question),
-        Stage::AllBits => take_piece(st, bits, size, string, question),
+    match turn.st.stage {
+        Stage::Anchor(i) => take_anchor(turn, i, bits, string, question),
+        Stage::AllBits => take_piece(turn, bits, string, question),
         // A hash or a syndrome is awaited, so that these are never come to.
-        Stage::Hashing => give(RebuilderAnswer::Finished, st, SheetChange::NoRow),
-        Stage::PuttingIn => give(RebuilderAnswer::Finished, st, SheetChange::NoRow),
-        Stage::TakingOut => give(RebuilderAnswer::Finished, st, SheetChange::NoRow),
-        Stage::Columns => give(RebuilderAnswer::Finished, st, SheetChange::NoRow),
+        Stage::Hashing | Stage::PuttingIn | Stage::TakingOut | Stage::Columns => give(
+            Ok(None),
+            turn.st,
+            SheetChange::NoRow,
+        ),
     }
 }
 
@@ -371,11 +385,10 @@ pub fn take_bits(
     ensures { said_rebuilder result string.new question.new
         ≡ step_outcome st y.now size (bits_answer (range bits.now 0 (due_length st))) string.old question.old }
 {
-    let phase = st.phase;
-    match phase {
+    match st.phase {
         Phase::AtWhole => take_whole(st, bits, size, string, question),
-        Phase::AtPieces => take_piece_bits(st, y, bits, size, string, question),
+        Phase::AtPieces => take_piece_bits(Turn { st, y, size }, bits, string, question),
         // The opening's answer is no bits, so that this is never come to.
-        Phase::AtOpening => give(RebuilderAnswer::Finished, st, SheetChange::NoRow),
+        Phase::AtOpening => give(Ok(None), st, SheetChange::NoRow),
     }
 }

@@ -1,13 +1,11 @@
 -- The settings line: five decimal numbers parted by single blanks, nothing before or after. A line of another form is refused with 1.
-use Rattle.std.specs.Prelude.{Bool, true, cond, ◌&&◌, List, [], ◌∷◌, ℕ, ◌+◌, ◌-◌, ◌*◌, length, leb, ltb}
+use Rattle.std.specs.Prelude.{Bool, true, cond, ◌&&◌, List, [], ◌∷◌, ℕ, ◌+◌, ◌-◌, ◌*◌, length, leb, ltb, Option as CodeOption, Some, None}
 use Rattle.std.proofs.Math.Option.{Option, none, some, bind}
 use Rattle.strings.specs.Bits.{max_bits}
 use Rattle.strings.specs.declared.settings.Settings.{Settings}
 use Rattle.strings.specs.declared.Refusal.TheVariants.{BadSetting}
 use Rattle.strings.specs.Refusals.{refusal_number}
 use Rattle.strings.specs.Results.{Result, refusal, value, unless, and_then}
-use Rattle.lines.specs.declared.SettingsRead.{SettingsRead}
-use Rattle.lines.specs.declared.SettingsRead.TheVariants.{Parsed, Malformed}
 use Rattle.lines.specs.Fields.{blank_byte, field, field_text, absent, or_refuse, line_of}
 
 -- the bytes 0 (48) to 9 (57)
@@ -61,6 +59,6 @@ unfoldable pub settings_in : List ℕ → Result Settings
 settings_in input = and_then (line_of BadSetting 0 input) settings_of
 
 -- what the code's answer says
-abbrev pub said_settings : SettingsRead → Result Settings
-said_settings (Parsed s) = value s
-said_settings Malformed = refusal (refusal_number BadSetting)
+abbrev pub said_settings : CodeOption Settings → Result Settings
+said_settings (Some s) = value s
+said_settings None = refusal (refusal_number BadSetting)

@@ -1,11 +1,11 @@
 -- The lines of X and Y: zeros and ones only, at most 65,536; the empty line is the empty string. A line of another form is refused with 2.
-use Rattle.std.specs.Prelude.{Bool, true, ◌&&◌, ◌||◌, List, [], ◌∷◌, ℕ, length, eqb, leb}
+use Rattle.std.specs.Prelude.{Bool, true, ◌&&◌, ◌||◌, List, [], ◌∷◌, ℕ, length, eqb, leb, Result as CodeResult, Ok, Err}
 use Rattle.strings.specs.Bits.{max_bits, bytes_for, pack, at_front}
 use Rattle.strings.specs.declared.Refusal.TheVariants.{BadString, BufferTooShort}
 use Rattle.strings.specs.Refusals.{refusal_number}
 use Rattle.strings.specs.Results.{Result, refusal, value, unless, and_then}
-use Rattle.lines.specs.declared.StringRead.{StringRead}
-use Rattle.lines.specs.declared.StringRead.TheVariants.{Packed, NotBits, BufferTooShort as TooShort}
+use Rattle.lines.specs.declared.StringError.{StringError}
+use Rattle.lines.specs.declared.StringError.TheVariants.{NotBits, BufferTooShort as TooShort}
 use Rattle.lines.specs.Fields.{line_of}
 
 -- the bytes 0 (48) and 1 (49)
@@ -43,7 +43,7 @@ leaves_string out (refusal number) = record { count = refusal number; buffer = o
 leaves_string out (value bits) = record { count = value (length bits); buffer = at_front (pack bits) out }
 
 -- what the code's answer says, and the buffer
-abbrev pub said_string : StringRead → List ℕ → StringSaid
-said_string (Packed n) out = record { count = value n; buffer = out }
-said_string NotBits out = record { count = refusal (refusal_number BadString); buffer = out }
-said_string TooShort out = record { count = refusal (refusal_number BufferTooShort); buffer = out }
+abbrev pub said_string : CodeResult ℕ StringError → List ℕ → StringSaid
+said_string (Ok n) out = record { count = value n; buffer = out }
+said_string (Err NotBits) out = record { count = refusal (refusal_number BadString); buffer = out }
+said_string (Err TooShort) out = record { count = refusal (refusal_number BufferTooShort); buffer = out }

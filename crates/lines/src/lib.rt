@@ -1,285 +1,166 @@
 // The text of the demonstration program (01, "The demonstration run"): the lines that it reads, and the bytes of those that it prints.
-// A line is written into a buffer that its caller made long enough for every line of its kind; the put_ functions require it.
+// The bytes that are printed are put into a Line of fixed size that its caller made long enough; the put_ methods require it.
 #![tactic(auto)]
 
-ghost use Rattle.std.specs.Prelude.{◌≡◌, [], ◌∷◌, ◌+◌, ◌-◌, ◌*◌, ◌≤◌, ◌<◌, length};
+ghost use Rattle.std.specs.Prelude.{◌≡◌, ℕ, ◌+◌, ◌*◌, ◌≤◌, ◌<◌, List, [], ◌∷◌, ◌++◌, length, take};
 ghost use Rattle.strings.specs.Bits.{write_bits, range};
-ghost use Rattle.lines.specs.Fields.{blank_byte, field_end, field};
-ghost use Rattle.lines.specs.SettingsLine.{is_digit, decimal_of, group_of, five_groups, settings_of, settings_in, said_settings};
+ghost use Rattle.lines.specs.Fields.{blank_byte, field_text};
+ghost use Rattle.lines.specs.SettingsLine.{decimal_of, group_of, five_groups, settings_of, settings_in, said_settings};
 ghost use Rattle.lines.specs.StringLine.{is_bit, all_bits, line_bits, string_of, string_in, leaves_string, said_string};
-ghost use Rattle.lines.specs.code.Readings.{said_field, said_decimal};
+ghost use Rattle.lines.specs.code.Readings.{said_bytes, said_decimal};
 ghost use Rattle.lines.specs.Printing.{Puts, hex_digit, hex_of, decimal, bit_byte, bit_bytes, message_line, row_line, last_line, refusal_line};
 
+use std::marker::Model;
 use strings::Settings;
 
 // The most characters of the settings line: as many as a line of X or Y may have, so that a program can read the three lines of any
 // input into a buffer of fixed size.
 const LONGEST_LINE: usize = strings::MAX_BITS;
 
-// Where a field of a byte list stands: its first index and the index behind its last; or there is no such field.
-#[derive(Clone, Copy)]
-pub enum FieldFound {
-    Spans(usize, usize),
-    Missing,
-}
-
-// What a group of bytes is as a decimal number below 2^32.
-#[derive(Clone, Copy)]
-pub enum Decimal {
-    Value(u32),
-    NotDecimal,
-}
-
-// What the settings line says; or it is of another form.
-#[derive(Clone, Copy)]
-pub enum SettingsRead {
-    Parsed(Settings),
-    Malformed,
-}
-
-// What reading a line of X or Y into a lent buffer gave: the bit count of the string that was packed; or the buffer was left alone,
-// since the line is of another form, or the buffer is too short.
-#[derive(Clone, Copy)]
-pub enum StringRead {
-    Packed(usize),
+// Why a line is no string for a lent buffer: it is of another form, or the buffer is too short.
+#[derive(Clone, Copy, Debug, PartialEq, Eq)]
+pub enum StringError {
     NotBits,
     BufferTooShort,
 }
 
-// The index of the first separator from index `from` on, or the length.
-fn field_end(s: &[u8], separator: u8, from: usize) -> usize
-    ensures { result ≡ field_end separator s.now from }
-{
-    let mut i = from;
-    while i < s.len() {
-        if s[i] == separator {
-            return i;
-        }
-        i += 1;
-    }
-    i
-}
-
 // The field with this index, counted from 0. The lines of the input are its fields at newlines, the groups of the settings line its fields at blanks.
-fn find_field(s: &[u8], separator: u8, index: usize) -> FieldFound
-    ensures { said_field result ≡ field separator index s.now }
+fn find_field(s: &[u8], separator: u8, index: usize) -> Option<&[u8]>
+    ensures { said_bytes result ≡ field_text separator index s.now }
 {
-    let mut from: usize = 0;
-    let mut i = index;
-    while 0 < i {
-        let end = field_end(s, separator, from);
-        if s.len() <= end {
-            return FieldFound::Missing;
-        }
-        from = end + 1;
-        i -= 1;
-    }
-    FieldFound::Spans(from, field_end(s, separator, from))
-}
-
-fn is_digit(x: u8) -> bool
-    ensures { result ≡ is_digit x }
-{
-    if x < b'0' {
-        return false;
-    }
-    x <= b'9'
-}
-
-// The value of a digit: how far its byte is behind that of 0, 48.
-fn digit_value(x: u8) -> u64
-    ensures { result ≡ x - 48 }
-{
-    if x < b'0' {
-        return 0;
-    }
-    (x - b'0') as u64
+    s.split(|x| *x == separator).nth(index)
 }
 
 // A decimal number: one or more digits, the highest first, leading zeros allowed, below 2^32.
-fn parse_decimal(s: &[u8]) -> Decimal
+#[tactic(auto, using(std::proofs::lemmas::Grind::common_steps, crate::specs::laws::SettingsLaws::decimal_steps))]
+fn parse_decimal(s: &[u8]) -> Option<u32>
     ensures { said_decimal result ≡ decimal_of s.now }
 {
-    if s.len() == 0 {
-        return Decimal::NotDecimal;
+    if s.is_empty() {
+        return None;
     }
-    let mut v: u64 = 0;
-    let mut i: usize = 0;
-    while i < s.len() {
-        let x = s[i];
-        if !is_digit(x) {
-            return Decimal::NotDecimal;
+    let mut v: u32 = 0;
+    for x in s {
+        if !x.is_ascii_digit() {
+            return None;
         }
-        v = v * 10 + digit_value(x);
-        if 4294967295 < v {
-            return Decimal::NotDecimal;
-        }
-        i += 1;
+        v = v.checked_mul(10)?.checked_add(u32::from(*x - b'0'))?;
     }
-    Decimal::Value(v as u32)
+    Some(v)
 }
 
 // The number of a group of the settings line.
-fn read_group(line: &[u8], index: usize) -> Decimal
+fn read_group(line: &[u8], index: usize) -> Option<u32>
     ensures { said_decimal result ≡ group_of line.now index }
 {
-    match find_field(line, b' ', index) {
-        FieldFound::Missing => Decimal::NotDecimal,
-        FieldFound::Spans(a, b) => parse_decimal(&line[a..b]),
-    }
+    parse_decimal(find_field(line, b' ', index)?)
 }
 
 // The first five groups of the settings line.
-fn five_groups(line: &[u8]) -> SettingsRead
+#[tactic(auto, unfolding(crate::specs::SettingsLine::five_groups))]
+fn five_groups(line: &[u8]) -> Option<Settings>
     ensures { said_settings result ≡ five_groups line.now }
 {
-    let Decimal::Value(m) = read_group(line, 0) else {
-        return SettingsRead::Malformed;
-    };
-    let Decimal::Value(h) = read_group(line, 1) else {
-        return SettingsRead::Malformed;
-    };
-    let Decimal::Value(k) = read_group(line, 2) else {
-        return SettingsRead::Malformed;
-    };
-    let Decimal::Value(key) = read_group(line, 3) else {
-        return SettingsRead::Malformed;
-    };
-    let Decimal::Value(ceiling) = read_group(line, 4) else {
-        return SettingsRead::Malformed;
-    };
-    SettingsRead::Parsed(Settings::new(m, h, k, key, ceiling))
+    let m = read_group(line, 0)?;
+    let h = read_group(line, 1)?;
+    let k = read_group(line, 2)?;
+    let key = read_group(line, 3)?;
+    let ceiling = read_group(line, 4)?;
+    Some(Settings::new(m, h, k, key, ceiling))
 }
 
 // The settings line: five groups parted by single blanks, and no sixth.
-fn parse_settings(line: &[u8]) -> SettingsRead
+#[tactic(auto, using(crate::specs::laws::SettingsLaws::settings_steps), unfolding(crate::specs::SettingsLine::settings_of))]
+fn parse_settings(line: &[u8]) -> Option<Settings>
     ensures { said_settings result ≡ settings_of line.now }
 {
-    if LONGEST_LINE < line.len() {
-        return SettingsRead::Malformed;
+    if LONGEST_LINE < line.len() || find_field(line, b' ', 5).is_some() {
+        return None;
     }
-    match find_field(line, b' ', 5) {
-        FieldFound::Spans(a, b) => SettingsRead::Malformed,
-        FieldFound::Missing => five_groups(line),
-    }
+    five_groups(line)
 }
 
-// The settings of the input: its first line.
-pub fn read_settings(input: &[u8]) -> SettingsRead
+// The settings of the input: its first line. None if the line is missing or of another form.
+#[tactic(auto, unfolding(crate::specs::SettingsLine::settings_in))]
+pub fn read_settings(input: &[u8]) -> Option<Settings>
     ensures { said_settings result ≡ settings_in input.now }
 {
-    match find_field(input, b'\n', 0) {
-        FieldFound::Missing => SettingsRead::Malformed,
-        FieldFound::Spans(a, b) => parse_settings(&input[a..b]),
-    }
+    parse_settings(find_field(input, b'\n', 0)?)
 }
 
+#[tactic(auto, unfolding(crate::specs::StringLine::is_bit))]
 fn is_bit(x: u8) -> bool
     ensures { result ≡ is_bit x }
 {
-    if x == b'0' {
-        return true;
-    }
-    x == b'1'
+    matches!(x, b'0' | b'1')
 }
 
 // Whether every byte is a zero or a one.
 fn only_bits(s: &[u8]) -> bool
     ensures { result ≡ all_bits s.now }
 {
-    let mut i: usize = 0;
-    while i < s.len() {
-        if !is_bit(s[i]) {
-            return false;
-        }
-        i += 1;
-    }
-    true
+    s.iter().all(|x| is_bit(*x))
 }
 
 // The line's zeros and ones are written as bits from the first place on.
+#[tactic(auto, using(crate::specs::laws::StringLaws::line_steps))]
 fn write_line(s: &[u8], out: &mut [u8])
     requires { length s.now ≤ 8 * length out.old }
     ensures { out.new ≡ write_bits out.old 0 (line_bits s.now) }
 {
-    let mut i: usize = 0;
-    while i < s.len() {
-        strings::set_bit(out, i, s[i] == b'1');
-        i += 1;
+    for (i, x) in s.iter().enumerate() {
+        strings::set_bit(out, i, *x == b'1');
     }
 }
 
 // A line of zeros and ones, at most 65,536, is packed at the front of the buffer. Nothing is written before the whole line was checked.
-fn parse_bits(s: &[u8], out: &mut [u8]) -> StringRead
+#[tactic(auto, using(crate::specs::laws::StringLaws::string_steps))]
+fn parse_bits(s: &[u8], out: &mut [u8]) -> Result<usize, StringError>
     ensures { said_string result out.new
         ≡ leaves_string out.old (string_of s.now (length out.old)) }
 {
     let n = s.len();
-    if strings::MAX_BITS < n {
-        return StringRead::NotBits;
+    if strings::MAX_BITS < n || !only_bits(s) {
+        return Err(StringError::NotBits);
     }
-    if !only_bits(s) {
-        return StringRead::NotBits;
-    }
-    let size = (n + 7) / 8;
+    let size = n.div_ceil(8);
     if out.len() < size {
-        return StringRead::BufferTooShort;
+        return Err(StringError::BufferTooShort);
     }
     strings::clear_bytes(out, 0, size);
     write_line(s, out);
-    StringRead::Packed(n)
+    Ok(n)
 }
 
-// The string of a line of the input, lines counted from 0; a missing line is of another form.
-pub fn read_string(input: &[u8], index: usize, out: &mut [u8]) -> StringRead
+// The string of a line of the input, lines counted from 0; a missing line is of another form. It gives the bit count of the string that was
+// packed; at an error the buffer is left alone.
+#[tactic(auto, unfolding(crate::specs::StringLine::string_in))]
+pub fn read_string(input: &[u8], index: usize, out: &mut [u8]) -> Result<usize, StringError>
     ensures { said_string result out.new
         ≡ leaves_string out.old (string_in input.now index (length out.old)) }
 {
-    match find_field(input, b'\n', index) {
-        FieldFound::Missing => StringRead::NotBits,
-        FieldFound::Spans(a, b) => parse_bits(&input[a..b], out),
-    }
+    let line = find_field(input, b'\n', index).ok_or(StringError::NotBits)?;
+    parse_bits(line, out)
 }
 
-// Each of the following functions writes from index `at` of the output buffer on, and gives the index behind what it wrote.
-
-fn put_byte(out: &mut [u8], at: usize, x: u8) -> usize
-    requires { at + 1 ≤ length out.old }
-    ensures { Puts out.old at (x ∷ []) out.new result }
-{
-    out[at] = x;
-    at + 1
-}
-
+#[tactic(auto, unfolding(crate::specs::Printing::hex_digit))]
 fn hex_digit(d: u8) -> u8
     requires { d < 16 }
     ensures { result ≡ hex_digit d }
 {
-    if d < 10 {
-        return b'0' + d;
-    }
-    b'a' + (d - 10)
+    if d < 10 { b'0' + d } else { b'a' + (d - 10) }
 }
 
-// The bytes in hexadecimal.
-fn put_hex(out: &mut [u8], at: usize, s: &[u8]) -> usize
-    requires { at + 2 * length s.now ≤ length out.old }
-    ensures { Puts out.old at (hex_of s.now) out.new result }
+fn bit_byte(b: bool) -> u8
+    ensures { result ≡ bit_byte b }
 {
-    let mut i: usize = 0;
-    let mut j = at;
-    while i < s.len() {
-        let x = s[i];
-        out[j] = hex_digit(x / 16);
-        out[j + 1] = hex_digit(x % 16);
-        i += 1;
-        j += 2;
-    }
-    j
+    if b { b'1' } else { b'0' }
 }
 
-// A number in decimal.
-fn put_decimal(out: &mut [u8], at: usize, v: u32) -> usize
+// A number in decimal, from index `at` of the buffer on; it gives the index behind it. It is no method of a Line, since a recursion of
+// a method with a const parameter has no proof yet.
+#[tactic(auto, using(crate::specs::laws::PrintLaws::decimal_steps))]
+fn write_decimal(out: &mut [u8], at: usize, v: u32) -> usize
     requires { at + length (decimal v) ≤ length out.old }
     ensures { Puts out.old at (decimal v) out.new result }
 {
@@ -287,100 +168,144 @@ fn put_decimal(out: &mut [u8], at: usize, v: u32) -> usize
         out[at] = b'0' + (v as u8);
         return at + 1;
     }
-    let last = put_decimal(out, at, v / 10);
+    let last = write_decimal(out, at, v / 10);
     out[last] = b'0' + ((v % 10) as u8);
     last + 1
 }
 
-fn bit_byte(b: bool) -> u8
-    ensures { result ≡ bit_byte b }
-{
-    if b {
-        return b'1';
+// The bytes that are to be printed next, at most N.
+#[derive(Debug, Drop)]
+pub struct Line<const N: usize> {
+    buffer: [u8; N],
+    size: usize,
+}
+
+// Clauses see the bytes that were put into it.
+impl<const N: usize> Model for Line<N> {
+    ghost Value = { List ℕ };
+
+    ghost view = { λ line. take line.size line.buffer };
+
+    ghost invariant = { λ line. line.size ≤ N };
+}
+
+#[tactic(auto, using(crate::specs::laws::PrintLaws::line_steps), unfolding(crate::specs::Printing::message_line, crate::specs::Printing::row_line, crate::specs::Printing::last_line, crate::specs::Printing::refusal_line))]
+impl<const N: usize> Line<N> {
+    // No byte yet.
+    pub fn new() -> Self
+        ensures { result ≡ [] }
+    {
+        Line {
+            buffer: [0; N],
+            size: 0,
+        }
     }
-    b'0'
-}
 
-// The first n bits of a string as zeros and ones.
-fn put_bits(out: &mut [u8], at: usize, s: &[u8], n: usize) -> usize
-    requires n_in_bounds { at + n ≤ length out.old }
-    requires n_bound { n ≤ 8 * length s.now }
-    ensures { Puts out.old at (bit_bytes (range s.now 0 n)) out.new result }
-{
-    let mut i: usize = 0;
-    while i < n {
-        out[at + i] = bit_byte(strings::get_bit(s, i));
-        i += 1;
+    // What was put into it so far.
+    pub fn bytes(&self) -> &[u8]
+        ensures { result.now ≡ self.now }
+    {
+        &self.buffer[..self.size]
     }
-    at + n
-}
 
-// A blank and a number in decimal.
-fn put_next(out: &mut [u8], at: usize, v: u32) -> usize
-    requires { at + 11 ≤ length out.old }
-    ensures { Puts out.old at (blank_byte ∷ decimal v) out.new result }
-{
-    let a = put_byte(out, at, b' ');
-    put_decimal(out, a, v)
-}
+    fn put_byte(&mut self, x: u8)
+        requires { length self.old < N }
+        ensures { self.new ≡ self.old ++ x ∷ [] }
+    {
+        self.buffer[self.size] = x;
+        self.size += 1;
+    }
 
-// A letter and a blank.
-fn put_letter(out: &mut [u8], at: usize, letter: u8) -> usize
-    requires { at + 2 ≤ length out.old }
-    ensures { Puts out.old at (letter ∷ blank_byte ∷ []) out.new result }
-{
-    let a = put_byte(out, at, letter);
-    put_byte(out, a, b' ')
-}
+    // The bytes in hexadecimal.
+    fn put_hex(&mut self, s: &[u8])
+        requires { length self.old + 2 * length s.now ≤ N }
+        ensures { self.new ≡ self.old ++ hex_of s.now }
+    {
+        for x in s {
+            self.put_byte(hex_digit(*x / 16));
+            self.put_byte(hex_digit(*x % 16));
+        }
+    }
 
-// The line of a message: letter Q for a question, A for an answer.
-pub fn put_message_line(out: &mut [u8], at: usize, letter: u8, message: &[u8]) -> usize
-    requires { at + (3 + 2 * length message.now) ≤ length out.old }
-    ensures { Puts out.old at (message_line letter message.now) out.new result }
-{
-    let a = put_letter(out, at, letter);
-    let b = put_hex(out, a, message);
-    put_byte(out, b, b'\n')
-}
+    // A number in decimal.
+    fn put_decimal(&mut self, v: u32)
+        requires { length self.old + length (decimal v) ≤ N }
+        ensures { self.new ≡ self.old ++ decimal v }
+    {
+        self.size = write_decimal(&mut self.buffer, self.size, v);
+    }
 
-// The line of a row.
-pub fn put_row_line(out: &mut [u8], at: usize, start: u32, len: u32, how: u32) -> usize
-    requires { at + 35 ≤ length out.old }
-    ensures { Puts out.old at (row_line start len how) out.new result }
-{
-    let a = put_byte(out, at, b'P');
-    let b = put_next(out, a, start);
-    let c = put_next(out, b, len);
-    let d = put_next(out, c, how);
-    put_byte(out, d, b'\n')
-}
+    // The first n bits of a string as zeros and ones.
+    fn put_bits(&mut self, s: &[u8], n: usize)
+        requires n_in_bounds { length self.old + n ≤ N }
+        requires n_bound { n ≤ 8 * length s.now }
+        ensures { self.new ≡ self.old ++ bit_bytes (range s.now 0 n) }
+    {
+        for i in 0..n {
+            self.put_byte(bit_byte(strings::get_bit(s, i)));
+        }
+    }
 
-// The last line of a finished run: the first n bits of the string, the questions after the opening, the counted bytes.
-pub fn put_last_line(
-    out: &mut [u8],
-    at: usize,
-    s: &[u8],
-    n: usize,
-    questions: u32,
-    counted: u32,
-) -> usize
-    requires n_in_bounds { at + (n + 25) ≤ length out.old }
-    requires n_bound { n ≤ 8 * length s.now }
-    ensures { Puts out.old at (last_line (range s.now 0 n) questions counted) out.new result }
-{
-    let a = put_letter(out, at, b'X');
-    let b = put_bits(out, a, s, n);
-    let c = put_next(out, b, questions);
-    let d = put_next(out, c, counted);
-    put_byte(out, d, b'\n')
-}
+    // A blank and a number in decimal.
+    fn put_next(&mut self, v: u32)
+        requires { length self.old + 11 ≤ N }
+        ensures { self.new ≡ self.old ++ blank_byte ∷ decimal v }
+    {
+        self.put_byte(b' ');
+        self.put_decimal(v);
+    }
 
-// The last line of a run in which a call was turned down.
-pub fn put_refusal_line(out: &mut [u8], at: usize, number: u32) -> usize
-    requires { at + 13 ≤ length out.old }
-    ensures { Puts out.old at (refusal_line number) out.new result }
-{
-    let a = put_byte(out, at, b'R');
-    let b = put_next(out, a, number);
-    put_byte(out, b, b'\n')
+    // A letter and a blank.
+    fn put_letter(&mut self, letter: u8)
+        requires { length self.old + 2 ≤ N }
+        ensures { self.new ≡ self.old ++ letter ∷ blank_byte ∷ [] }
+    {
+        self.put_byte(letter);
+        self.put_byte(b' ');
+    }
+
+    // The line of a message: letter Q for a question, A for an answer.
+    pub fn put_message_line(&mut self, letter: u8, message: &[u8])
+        requires { length self.old + (3 + 2 * length message.now) ≤ N }
+        ensures { self.new ≡ self.old ++ message_line letter message.now }
+    {
+        self.put_letter(letter);
+        self.put_hex(message);
+        self.put_byte(b'\n');
+    }
+
+    // The line of a row.
+    pub fn put_row_line(&mut self, start: u32, len: u32, how: u32)
+        requires { length self.old + 35 ≤ N }
+        ensures { self.new ≡ self.old ++ row_line start len how }
+    {
+        self.put_byte(b'P');
+        self.put_next(start);
+        self.put_next(len);
+        self.put_next(how);
+        self.put_byte(b'\n');
+    }
+
+    // The last line of a finished run: the first n bits of the string, the questions after the opening, the counted bytes.
+    pub fn put_last_line(&mut self, s: &[u8], n: usize, questions: u32, counted: u32)
+        requires n_in_bounds { length self.old + (n + 25) ≤ N }
+        requires n_bound { n ≤ 8 * length s.now }
+        ensures { self.new ≡ self.old ++ last_line (range s.now 0 n) questions counted }
+    {
+        self.put_letter(b'X');
+        self.put_bits(s, n);
+        self.put_next(questions);
+        self.put_next(counted);
+        self.put_byte(b'\n');
+    }
+
+    // The last line of a run in which a call was turned down.
+    pub fn put_refusal_line(&mut self, number: u32)
+        requires { length self.old + 13 ≤ N }
+        ensures { self.new ≡ self.old ++ refusal_line number }
+    {
+        self.put_byte(b'R');
+        self.put_next(number);
+        self.put_byte(b'\n');
+    }
 }

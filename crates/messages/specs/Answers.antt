@@ -1,15 +1,16 @@
 -- 01, "Messages", and 02, CR 1: answers as values and as bytes, and what a rebuilder that awaits one reads.
-use Rattle.std.specs.Prelude.{◌≡◌, Bool, true, ◌&&◌, List, [], ◌∷◌, ◌++◌, ℕ, suc, ◌+◌, ◌*◌, ◌^◌, ◌≤◌, length, drop, ltb, leb, eqb}
+use Rattle.std.specs.Prelude.{◌≡◌, Result as CodeResult, Ok, Err, Bool, true, ◌&&◌, List, [], ◌∷◌, ◌++◌, ℕ, suc, ◌+◌, ◌*◌, ◌^◌, ◌≤◌, length, drop, ltb, leb, eqb}
 use Rattle.strings.specs.Bits.{max_bits, range, bytes_for, pack}
 use Rattle.strings.specs.StringRule.{string_rule, IsString}
 use Rattle.strings.specs.Refusals.{refusal_number}
 use Rattle.strings.specs.Results.{Result, refusal, value, unless, and_then}
+use Rattle.strings.specs.declared.Refusal.{Refusal}
 use Rattle.strings.specs.declared.Refusal.TheVariants.{Truncated, BadKind, TrailingBytes, OutOfRange}
 use Rattle.codes.specs.Columns.{column_length}
 use Rattle.messages.specs.declared.Kind.{Kind}
 use Rattle.messages.specs.declared.Kind.TheVariants.{Open, Hash, Syndrome, Bits, Burst}
-use Rattle.messages.specs.declared.AnswerRead.{AnswerRead}
-use Rattle.messages.specs.declared.AnswerRead.TheVariants.{IsSize, IsHash, IsSyndrome, IsBits, IsBurst, NoAnswer}
+use Rattle.messages.specs.declared.Found.{Found}
+use Rattle.messages.specs.declared.Found.TheVariants.{IsSize, IsHash, IsSyndrome, IsBits, IsBurst}
 use Rattle.messages.specs.Numbers.{number, number_at, two_at, all_numbers, numbers_at}
 use Rattle.messages.specs.Kinds.{kind_number}
 
@@ -101,26 +102,26 @@ unfoldable pub burst_syndromes : ℕ → List ℕ → List ℕ
 burst_syndromes b s = the_numbers (and_then (number_at s 0) (λ (v, at). numbers_at b s at))
 
 -- what the code's answer says of the message s, where len bits, of a burst in b columns, are awaited: bits are left where they lie, from byte at on, and so are syndromes of columns
-abbrev pub said_answer : List ℕ → ℕ → ℕ → AnswerRead → Result Answer
-said_answer s len b (IsSize n) = value (size_answer n)
-said_answer s len b (IsHash v) = value (hash_answer v)
-said_answer s len b (IsSyndrome a v) = value (syndrome_answer a v)
-said_answer s len b (IsBits at) = value (bits_answer (range s (8 * at) len))
-said_answer s len b (IsBurst v) = value (burst_answer (burst_syndromes b s) v)
-said_answer s len b (NoAnswer e) = refusal (refusal_number e)
+abbrev pub said_answer : List ℕ → ℕ → ℕ → CodeResult Found Refusal → Result Answer
+said_answer s len b (Ok (IsSize n)) = value (size_answer n)
+said_answer s len b (Ok (IsHash v)) = value (hash_answer v)
+said_answer s len b (Ok (IsSyndrome a v)) = value (syndrome_answer a v)
+said_answer s len b (Ok (IsBits at)) = value (bits_answer (range s (8 * at) len))
+said_answer s len b (Ok (IsBurst v)) = value (burst_answer (burst_syndromes b s) v)
+said_answer s len b (Err e) = refusal (refusal_number e)
 
 -- and they are the rest of the message, a string of len bits
 pub record BitsAt (len : ℕ) (s : List ℕ) (at : ℕ) : Type 0 where
   pub inside : at ≤ length s
   pub string : IsString (drop at s) len
 
-abbrev pub BitsThere : List ℕ → ℕ → AnswerRead → Type 0
-BitsThere s len (IsSize n) = Unit {0}
-BitsThere s len (IsHash v) = Unit {0}
-BitsThere s len (IsSyndrome a v) = Unit {0}
-BitsThere s len (IsBits at) = BitsAt len s at
-BitsThere s len (IsBurst v) = Unit {0}
-BitsThere s len (NoAnswer e) = Unit {0}
+abbrev pub BitsThere : List ℕ → ℕ → CodeResult Found Refusal → Type 0
+BitsThere s len (Ok (IsSize n)) = Unit {0}
+BitsThere s len (Ok (IsHash v)) = Unit {0}
+BitsThere s len (Ok (IsSyndrome a v)) = Unit {0}
+BitsThere s len (Ok (IsBits at)) = BitsAt len s at
+BitsThere s len (Ok (IsBurst v)) = Unit {0}
+BitsThere s len (Err e) = Unit {0}
 
 -- the message s was read to the answer of a burst in b columns
 pub record BurstAnswered (b : ℕ) (s : List ℕ) : Type 0 where

@@ -5,8 +5,6 @@ use Rattle.strings.specs.Results.{Result, refusal, value, and_then, mapped}
 use Rattle.strings.specs.declared.Refusal.TheVariants.{BadKind}
 use Rattle.messages.specs.declared.Kind.{Kind}
 use Rattle.messages.specs.declared.Kind.TheVariants.{Open, Hash, Syndrome, Bits, Burst}
-use Rattle.messages.specs.declared.KindRead.{KindRead}
-use Rattle.messages.specs.declared.KindRead.TheVariants.{Known, NoKind}
 use Rattle.messages.specs.Numbers.{number_at}
 
 abbrev pub kind_number : Kind → ℕ
@@ -28,8 +26,3 @@ kind_of (suc (suc (suc (suc (suc v))))) = refusal (refusal_number BadKind)
 -- the kind of the message s and the position behind it: 4 or 5 as its number is read, then 6
 unfoldable pub kind_at : List ℕ → Result (Kind × ℕ)
 kind_at s = and_then (number_at s 0) (λ (v, at). mapped (λ k. (k, at)) (kind_of v))
-
--- what the code's answer says
-abbrev pub said_kind : KindRead → Result (Kind × ℕ)
-said_kind (Known k at) = value (k, at)
-said_kind (NoKind e) = refusal (refusal_number e)

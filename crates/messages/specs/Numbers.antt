@@ -1,14 +1,7 @@
 -- 01, "Messages": every number is below 2^32, in groups of seven bits, lowest first, top bit set on all but the last byte, shortest form.
 use Rattle.std.specs.Prelude.{cond, List, [], ◌∷◌, ◌++◌, ℕ, zero, suc, ◌+◌, ◌-◌, ◌*◌, ◌/◌, ◌%◌, length, get_or, ltb, leb}
-use Rattle.strings.specs.Refusals.{refusal_number}
-use Rattle.strings.specs.Results.{Result, refusal, value, unless, and_then}
+use Rattle.strings.specs.Results.{Result, value, unless, and_then}
 use Rattle.strings.specs.declared.Refusal.TheVariants.{Truncated, BadNumber}
-use Rattle.messages.specs.declared.numbers.NumberRead.{NumberRead}
-use Rattle.messages.specs.declared.numbers.NumberRead.TheVariants.{Value, NoNumber}
-use Rattle.messages.specs.declared.reading.TwoRead.{TwoRead}
-use Rattle.messages.specs.declared.reading.TwoRead.TheVariants.{Two, NoTwo}
-use Rattle.messages.specs.declared.reading.ThreeRead.{ThreeRead}
-use Rattle.messages.specs.declared.reading.ThreeRead.TheVariants.{Three, NoThree}
 
 -- the bytes of v in at most k + 1 groups
 unfoldable pub groups : ℕ → ℕ → List ℕ
@@ -65,16 +58,3 @@ numbers_at (suc k) s at =
     and_then (number_at s at) (λ (a, next).
     and_then (numbers_at k s next) (λ (l, end).
     value (a ∷ l, end)))
-
--- what the code's answers say
-abbrev pub said_number : NumberRead → Result (ℕ × ℕ)
-said_number (Value v at) = value (v, at)
-said_number (NoNumber e) = refusal (refusal_number e)
-
-abbrev pub said_two : TwoRead → Result (ℕ × ℕ × ℕ)
-said_two (Two a b end) = value (a, b, end)
-said_two (NoTwo e) = refusal (refusal_number e)
-
-abbrev pub said_three : ThreeRead → Result (ℕ × ℕ × ℕ × ℕ)
-said_three (Three a b c end) = value (a, b, c, end)
-said_three (NoThree e) = refusal (refusal_number e)

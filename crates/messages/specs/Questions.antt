@@ -2,15 +2,12 @@
 use Rattle.std.specs.Prelude.{List, ◌++◌, ℕ, ◌+◌, length, leb, eqb}
 use Rattle.strings.specs.SettingLimits.{hash_limits, key_limits}
 use Rattle.codes.specs.Columns.{column_limits}
-use Rattle.strings.specs.Refusals.{refusal_number}
-use Rattle.strings.specs.Results.{Result, refusal, value, unless, and_then}
+use Rattle.strings.specs.Results.{Result, value, unless, and_then}
 use Rattle.strings.specs.declared.Refusal.TheVariants.{TrailingBytes, OutOfRange, BadBurst}
 use Rattle.messages.specs.declared.Kind.{Kind}
 use Rattle.messages.specs.declared.Kind.TheVariants.{Open, Hash, Syndrome, Bits, Burst}
 use Rattle.messages.specs.declared.Question.{Question}
 use Rattle.messages.specs.declared.Question.TheVariants.{AskOpen, AskHash, AskSyndrome, AskBits, AskBurst}
-use Rattle.messages.specs.declared.QuestionRead.{QuestionRead}
-use Rattle.messages.specs.declared.QuestionRead.TheVariants.{Asked, NoQuestion}
 use Rattle.messages.specs.Numbers.{number, two_at, three_at}
 use Rattle.messages.specs.Kinds.{kind_number, kind_at}
 
@@ -105,8 +102,3 @@ fields_at Burst s at n = burst_range_at s at n
 -- a whole question, whatever its turn
 unfoldable pub read_question : List ℕ → ℕ → Result Question
 read_question s n = and_then (kind_at s) (λ (k, at). fields_at k s at n)
-
--- what the code's answer says
-abbrev pub said_question : QuestionRead → Result Question
-said_question (Asked q) = value q
-said_question (NoQuestion e) = refusal (refusal_number e)

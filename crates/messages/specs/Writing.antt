@@ -1,11 +1,10 @@
 -- What a writer of a message leaves in a lent buffer.
-use Rattle.std.specs.Prelude.{cond, List, ℕ, length, leb}
+use Rattle.std.specs.Prelude.{Result as CodeResult, cond, List, ℕ, length, leb}
 use Rattle.strings.specs.Bits.{at_front}
 use Rattle.strings.specs.Refusals.{refusal_number}
-use Rattle.strings.specs.Results.{Result, refusal, value}
+use Rattle.strings.specs.Results.{Result, refusal, value, said}
+use Rattle.strings.specs.declared.Refusal.{Refusal}
 use Rattle.strings.specs.declared.Refusal.TheVariants.{BufferTooShort}
-use Rattle.messages.specs.declared.WriteResult.{WriteResult}
-use Rattle.messages.specs.declared.WriteResult.TheVariants.{Written, TooShort}
 
 -- the message's length or why it was not written, and the buffer's bytes after it
 pub record Wrote : Type 0 where
@@ -13,9 +12,8 @@ pub record Wrote : Type 0 where
   pub buffer : List ℕ
 
 -- what the code's answer says, where the buffer's bytes are buf
-abbrev pub said_write : WriteResult → List ℕ → Wrote
-said_write (Written size) buf = record { answer = value size; buffer = buf }
-said_write TooShort buf = record { answer = refusal (refusal_number BufferTooShort); buffer = buf }
+abbrev pub said_write : CodeResult ℕ Refusal → List ℕ → Wrote
+said_write r buf = record { answer = said r; buffer = buf }
 
 -- the message m at the front of the buffer, later bytes as they were; too short a buffer keeps all its bytes
 unfoldable pub put_front : List ℕ → List ℕ → Wrote

@@ -4,8 +4,6 @@
 // set. 10, the number B of a burst question outside 2 to 32, is tested between 7 and 8.
 #![tactic(auto)]
 
-use strings::Refusal;
-
 mod answers;
 mod kinds;
 mod numbers;
@@ -20,7 +18,7 @@ pub use kinds::read_kind;
 pub use questions::{read_fields, write_question};
 
 // The kinds of 01, "Messages", and 02, CR 1; specs/Kinds.antt has their numbers, 0 to 4.
-#[derive(Clone, Copy)]
+#[derive(Clone, Copy, Debug, PartialEq, Eq)]
 pub enum Kind {
     Open,
     Hash,
@@ -29,15 +27,8 @@ pub enum Kind {
     Burst,
 }
 
-// What reading the kind of a question gave: a known kind and the position behind it, or why not.
-#[derive(Clone, Copy)]
-pub enum KindRead {
-    Known(Kind, usize),
-    NoKind(Refusal),
-}
-
 // A question: of an opening h and key (its version is 1), of the others start and length, of a burst also the number B of columns.
-#[derive(Clone, Copy)]
+#[derive(Clone, Copy, Debug, PartialEq, Eq)]
 pub enum Question {
     AskOpen(u32, u32),
     AskHash(u32, u32),
@@ -46,27 +37,13 @@ pub enum Question {
     AskBurst(u32, u32, u32),
 }
 
-#[derive(Clone, Copy)]
-pub enum QuestionRead {
-    Asked(Question),
-    NoQuestion(Refusal),
-}
-
-// What reading an answer gave: n; the hash; syndrome and hash; the index of the byte at which the bits begin; of a burst's answer the hash,
-// whose syndromes `burst_syndromes` gives; or why not.
-#[derive(Clone, Copy)]
-pub enum AnswerRead {
+// An answer as it was read: n; the hash; syndrome and hash; the index of the byte at which the bits begin; of a burst's answer the hash, whose
+// syndromes `burst_syndromes` gives.
+#[derive(Clone, Copy, Debug, PartialEq, Eq)]
+pub enum Found {
     IsSize(u32),
     IsHash(u32),
     IsSyndrome(u32, u32),
     IsBits(usize),
     IsBurst(u32),
-    NoAnswer(Refusal),
-}
-
-// What writing a message into a lent buffer gave: the message's length, or that the buffer is too short and was left alone.
-#[derive(Clone, Copy)]
-pub enum WriteResult {
-    Written(usize),
-    TooShort,
 }

@@ -1,33 +1,28 @@
 // Numbers of messages: written and read as groups of seven bits, the lowest first.
 ghost use Rattle.std.specs.Prelude.{◌≡◌, ◌+◌, min, ◌≤◌, ◌<◌, length};
 ghost use Rattle.std.proofs.lemmas.List.Edits.{sets};
-ghost use Rattle.messages.specs.Numbers.{number, next_byte, number_at, said_number};
+ghost use Rattle.strings.specs.Results.{said};
+ghost use Rattle.messages.specs.Numbers.{number, next_byte, number_at};
 
 use strings::{Refusal, wide};
 
-// What reading a number at a position gave: its value and the position behind it, or why not.
-#[derive(Clone, Copy)]
-pub enum NumberRead {
-    Value(u32, usize),
-    NoNumber(Refusal),
-}
-
 // The fifth byte of a number, at index i, after four that gave v below 2^28: it is the last, and counts 2^28-fold.
-fn read_fifth(s: &[u8], i: usize, v: u32) -> NumberRead
+#[tactic(auto, using(crate::specs::laws::NumberLaws::fifth_laws))]
+fn read_fifth(s: &[u8], i: usize, v: u32) -> Result<(u32, usize), Refusal>
     requires { v < 268435456 }
-    ensures { said_number result ≡ next_byte 0 s.now i 268435456 v }
+    ensures { said result ≡ next_byte 0 s.now i 268435456 v }
 {
     if s.len() <= i {
-        return NumberRead::NoNumber(Refusal::Truncated);
+        return Err(Refusal::Truncated);
     }
     let last = s[i];
     if last == 0 {
-        return NumberRead::NoNumber(Refusal::BadNumber);
+        return Err(Refusal::BadNumber);
     }
     if 15 < last {
-        return NumberRead::NoNumber(Refusal::BadNumber);
+        return Err(Refusal::BadNumber);
     }
-    NumberRead::Value(v + 268435456 * wide(last), i + 1)
+    Ok((v + 268435456 * wide(last), i + 1))
 }
 
 // Where the first four bytes of a number at position `at` end: behind the fourth, or with the message of `size` bytes.
@@ -44,36 +39,35 @@ fn fourth_end(size: usize, at: usize) -> usize
 // The number at position `at`, byte by byte: v so far, and the next byte, at index i, counts w-fold. The loop stops behind the fourth byte or
 // where the message ends: a fifth is next, or none is there, and `read_fifth` finds which. The compiler does
 // not unroll a loop whose number of turns it can't know, so that this function stays small enough to be inlined.
-pub fn read_number(s: &[u8], at: usize) -> NumberRead
-    ensures { said_number result ≡ number_at s.now at }
+pub fn read_number(s: &[u8], at: usize) -> Result<(u32, usize), Refusal>
+    ensures { said result ≡ number_at s.now at }
 {
     if s.len() <= at {
-        return NumberRead::NoNumber(Refusal::Truncated);
+        return Err(Refusal::Truncated);
     }
     let first = s[at];
     if first < 128 {
-        return NumberRead::Value(wide(first), at + 1);
+        return Ok((wide(first), at + 1));
     }
     let end = fourth_end(s.len(), at);
     let mut v = wide(first - 128);
     let mut w: u32 = 128;
-    let mut i = at + 1;
-    while i < end {
+    for i in at + 1..end {
         let b = s[i];
         if b == 0 {
-            return NumberRead::NoNumber(Refusal::BadNumber);
+            return Err(Refusal::BadNumber);
         }
         if b < 128 {
-            return NumberRead::Value(v + w * wide(b), i + 1);
+            return Ok((v + w * wide(b), i + 1));
         }
         v = v + w * wide(b - 128);
         w = w * 128;
-        i += 1;
     }
-    read_fifth(s, i, v)
+    read_fifth(s, end, v)
 }
 
 // How many bytes a number takes.
+#[tactic(auto, using(crate::specs::laws::NumberLaws::size_laws))]
 pub fn number_size(v: u32) -> usize
     ensures { result ≡ length (number v) }
 {
@@ -100,6 +94,7 @@ pub fn put_number(buf: &mut [u8], at: usize, v: u32) -> usize
 {
     let mut i = at;
     let mut w = v;
+    // A `for` is no plainer: only what is left of v says whether a byte is the last.
     while 128 <= w {
         buf[i] = (w % 128 + 128) as u8;
         w = w / 128;

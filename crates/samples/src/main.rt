@@ -6,8 +6,7 @@
 
 ghost use Rattle.std.specs.Prelude.{◌≤◌, ◌<◌, IfOk};
 
-use codes::{NumberAnswer, RepairAnswer};
-use ends::{AnchorAnswer, Holder, HolderAnswer, Rebuilder, RebuilderAnswer};
+use ends::{Holder, Rebuilder};
 use std::io;
 use strings::{Refusal, Settings};
 
@@ -22,7 +21,7 @@ fn print_number(rt: &impl Print, v: u64) -> io::Result<()> {
 
 fn print_refusal(rt: &impl Print, e: Refusal) -> io::Result<()> {
     print(rt, b" R")?;
-    print_number(rt, strings::refusal_number(e) as u64)
+    print_number(rt, u64::from(u32::from(e)))
 }
 
 // The first n bits of b.
@@ -33,14 +32,12 @@ fn print_bits(rt: &impl Print, b: u8, n: u32) -> io::Result<()>
     if n == 0 {
         print(rt, b"empty")?;
     }
-    let mut i: u32 = 0;
-    while i < n {
+    for i in 0..n {
         if (b >> (7 - i)) % 2 == 1 {
             print(rt, b"1")?;
         } else {
             print(rt, b"0")?;
         }
-        i += 1;
     }
     Ok(())
 }
@@ -48,43 +45,41 @@ fn print_bits(rt: &impl Print, b: u8, n: u32) -> io::Result<()>
 // The rows 1 to `count` of a key: the outputs of xorshift from that seed.
 fn print_rows(rt: &impl Print, key: u32, count: u32) -> io::Result<()> {
     let mut v = key;
-    let mut i: u32 = 0;
-    while i < count {
+    for _ in 0..count {
         v = codes::xorshift(v);
         print_number(rt, v as u64)?;
-        i += 1;
     }
     print(rt, b"\n")
 }
 
-fn print_answer(rt: &impl Print, r: NumberAnswer) -> io::Result<()> {
+fn print_answer(rt: &impl Print, r: Result<u32, Refusal>) -> io::Result<()> {
     match r {
-        NumberAnswer::Value(v) => print_number(rt, v as u64),
-        NumberAnswer::Refused(e) => print_refusal(rt, e),
+        Ok(v) => print_number(rt, v as u64),
+        Err(e) => print_refusal(rt, e),
     }
 }
 
-// The repair of the first `bits` bits of b to n bits of syndrome a; 1 where there is one.
-fn print_repair(rt: &impl Print, b: u8, bits: u32, n: u32, a: u32) -> io::Result<u32>
+// The repair of the first `bits` bits of b to n bits of syndrome a; whether there is one.
+fn print_repair(rt: &impl Print, b: u8, bits: u32, n: u32, a: u32) -> io::Result<bool>
     requires bits_bound { bits ≤ 8 }
     requires n_bound { n ≤ 8 }
 {
     let s = [b; 1];
     let mut out = [0u8; 1];
-    let size = ((bits + 7) / 8) as usize;
+    let size = bits.div_ceil(8) as usize;
     let r = codes::repair(&s[0..size], bits as usize, n as usize, a as usize, &mut out);
     match r {
-        RepairAnswer::Done => {
+        Ok(true) => {
             print_bits(rt, out[0], n)?;
-            Ok(1)
+            Ok(true)
         }
-        RepairAnswer::Nothing => {
+        Ok(false) => {
             print(rt, b" none")?;
-            Ok(0)
+            Ok(false)
         }
-        RepairAnswer::Refused(e) => {
+        Err(e) => {
             print_refusal(rt, e)?;
-            Ok(0)
+            Ok(false)
         }
     }
 }
@@ -96,12 +91,10 @@ fn print_repairs(rt: &impl Print, b: u8, bits: u32, n: u32) -> io::Result<u32>
     ensures { IfOk result (λ found. found ≤ 9) }
 {
     let mut found: u32 = 0;
-    let mut a: u32 = 0;
-    while a <= n {
-        if print_repair(rt, b, bits, n, a)? == 1 {
+    for a in 0..=n {
+        if print_repair(rt, b, bits, n, a)? {
             found += 1;
         }
-        a += 1;
     }
     Ok(found)
 }
@@ -123,7 +116,7 @@ fn print_string(rt: &impl Print, b: u8, bits: u32) -> io::Result<u32>
     ensures { IfOk result (λ found. found ≤ 9) }
 {
     let s = [b; 1];
-    let size = ((bits + 7) / 8) as usize;
+    let size = bits.div_ceil(8) as usize;
     print_bits(rt, b, bits)?;
     print(rt, b":")?;
     print_answer(rt, codes::syndrome(&s[0..size], bits as usize))?;
@@ -144,12 +137,10 @@ fn print_strings(rt: &impl Print, bits: u32, gap: u32) -> io::Result<u32>
     ensures { IfOk result (λ found. found ≤ 2304) }
 {
     let mut found: u32 = 0;
-    let mut v: u32 = 0;
-    while v < 256 {
+    for v in 0..256 {
         if v % gap == 0 {
             found += print_string(rt, v as u8, bits)?;
         }
-        v += 1;
     }
     Ok(found)
 }
@@ -186,9 +177,9 @@ fn print_call(rt: &impl Print, s: &[u8], bits: usize, n: usize, a: usize) -> io:
     let mut out = [0u8; 1];
     let r = codes::repair(s, bits, n, a, &mut out);
     match r {
-        RepairAnswer::Done => print(rt, b" done"),
-        RepairAnswer::Nothing => print(rt, b" none"),
-        RepairAnswer::Refused(e) => print_refusal(rt, e),
+        Ok(true) => print(rt, b" done"),
+        Ok(false) => print(rt, b" none"),
+        Err(e) => print_refusal(rt, e),
     }
 }
 
@@ -240,14 +231,10 @@ fn print_byte(rt: &impl Print, v: u8) -> io::Result<()> {
     print_number(rt, v as u64)
 }
 
-// The bytes of a message, the first `size` of its buffer.
-fn print_bytes(rt: &impl Print, buffer: &[u8], size: usize) -> io::Result<()> {
-    let mut i: usize = 0;
-    while i < buffer.len() {
-        if i < size {
-            print_byte(rt, buffer[i])?;
-        }
-        i += 1;
+// The bytes of a message.
+fn print_bytes(rt: &impl Print, message: &[u8]) -> io::Result<()> {
+    for x in message {
+        print_byte(rt, *x)?;
     }
     Ok(())
 }
@@ -263,29 +250,25 @@ fn tell(
     let mut string = [0u8; 8];
     let mut question = [0u8; 8];
     let out = ends::rebuilder_call(st, y, bits, message, 17, &mut string, &mut question);
-    let answer = out.answer;
-    let state = out.state;
-    match answer {
-        RebuilderAnswer::Asks(size) => print_bytes(rt, &question, size),
-        RebuilderAnswer::Finished => print(rt, b" finished"),
-        RebuilderAnswer::Refused(e) => print_refusal(rt, e),
+    match out.answer {
+        Ok(Some(size)) => print_bytes(rt, &question[0..size.min(question.len())]),
+        Ok(None) => print(rt, b" finished"),
+        Err(e) => print_refusal(rt, e),
     }?;
     print(rt, b";")?;
-    Ok(state)
+    Ok(out.state)
 }
 
 // The holder's answer to a question about X, and its state.
 fn ask(rt: &impl Print, st: Holder, x: &[u8], bits: usize, message: &[u8]) -> io::Result<Holder> {
     let mut reply = [0u8; 9];
     let out = ends::holder_call(st, x, bits, message, &mut reply);
-    let answer = out.answer;
-    let state = out.state;
-    match answer {
-        HolderAnswer::Replied(size) => print_bytes(rt, &reply, size),
-        HolderAnswer::Refused(e) => print_refusal(rt, e),
+    match out.answer {
+        Ok(size) => print_bytes(rt, &reply[0..size.min(reply.len())]),
+        Err(e) => print_refusal(rt, e),
     }?;
     print(rt, b";")?;
-    Ok(state)
+    Ok(out.state)
 }
 
 // The first state of a rebuilder with m = h = 8.
@@ -329,11 +312,11 @@ fn print_none(rt: &impl Print) -> io::Result<()> {
     print(rt, b"\n")
 }
 
-fn print_place(rt: &impl Print, answer: AnchorAnswer) -> io::Result<()> {
+fn print_place(rt: &impl Print, answer: Result<Option<usize>, Refusal>) -> io::Result<()> {
     match answer {
-        AnchorAnswer::Placed(r) => print_number(rt, r as u64),
-        AnchorAnswer::NoPlace => print(rt, b" none"),
-        AnchorAnswer::Refused(e) => print_refusal(rt, e),
+        Ok(Some(r)) => print_number(rt, r as u64),
+        Ok(None) => print(rt, b" none"),
+        Err(e) => print_refusal(rt, e),
     }
 }
 
@@ -351,10 +334,8 @@ fn print_place_at(rt: &impl Print, r: u32) -> io::Result<()>
 // Every place in turn; then 01010101 that stands at 28 and at 30, equally far off.
 fn print_places(rt: &impl Print) -> io::Result<()> {
     print(rt, b"eight ones at 0 to 58:")?;
-    let mut r: u32 = 0;
-    while r <= 58 {
+    for r in 0..=58 {
         print_place_at(rt, r)?;
-        r += 1;
     }
     print(rt, b"\n01010101 at 28 and 30:")?;
     print_place(

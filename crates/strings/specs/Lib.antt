@@ -1,5 +1,6 @@
 -- What a reader must believe of strings, settings and refusals, and the laws of it.
 pub mod Bits
+pub mod Ranges
 pub mod StringRule
 pub mod SettingLimits
 pub mod Refusals

@@ -1,5 +1,5 @@
 -- What a call comes to (01, "Why a call is turned down"): turned down with its number alone, or a value. The definitions of every layer use this type.
-use Rattle.std.specs.Prelude.{Bool, true, false, ℕ}
+use Rattle.std.specs.Prelude.{Bool, true, false, ℕ, Result as CodeResult, Ok, Err}
 use Rattle.strings.specs.Refusals.{refusal_number}
 use Rattle.strings.specs.declared.Refusal.{Refusal}
 
@@ -21,3 +21,8 @@ and_then (value a) rest = rest a
 abbrev pub mapped : {A B : Type 0} → (A → B) → Result A → Result B
 mapped f (refusal number) = refusal number
 mapped f (value a) = value (f a)
+
+-- what the code's answer says: its value, or the number of its refusal
+abbrev pub said : {A : Type 0} → CodeResult A Refusal → Result A
+said (Ok v) = value v
+said (Err e) = refusal (refusal_number e)

@@ -2,15 +2,19 @@
 // or a range require that it lies in the string: the layers above know this, and a test at each bit would be for nothing.
 #![tactic(auto)]
 
-ghost use Rattle.std.specs.Prelude.{◌≡◌, true, false, ◌+◌, ◌*◌, ◌≤◌, ◌<◌, length};
-ghost use Rattle.strings.specs.Bits.{bit_at, range, set_bit, write_bits, cleared, Part, Eight};
+ghost use Rattle.std.specs.Prelude.{◌≡◌, ◌+◌, ◌*◌, ◌≤◌, ◌<◌, length};
+ghost use Rattle.strings.specs.Bits.{bit_at, set_bit, cleared, Eight};
 ghost use Rattle.strings.specs.StringRule.{string_rule};
 ghost use Rattle.strings.specs.Refusals.{refusal_number};
 
+mod bit_range;
+mod copying;
 mod settings;
 
+pub use bit_range::BitRange;
+pub use copying::copy_bits;
 pub use settings::{
-    Settings, both, is_anchor_length, is_between, is_hash_width, is_key, is_window_factor,
+    Settings, is_anchor_length, is_between, is_hash_width, is_key, is_window_factor,
 };
 
 // The most bits that a string has (specs/Bits.antt: max_bits).
@@ -20,7 +24,7 @@ pub const MAX_BITS: usize = 65536;
 pub const MOST_BITS: u32 = MAX_BITS as u32;
 
 // Why a call is turned down (01, "Why a call is turned down", and 02). specs/Refusals.antt has the numbers; they rise in this order.
-#[derive(Clone, Copy)]
+#[derive(Clone, Copy, Debug, PartialEq, Eq)]
 pub enum Refusal {
     // A setting handed in is outside its limits.
     BadSetting,
@@ -49,26 +53,29 @@ pub enum Refusal {
 }
 
 // The number of a refusal.
-pub fn refusal_number(e: Refusal) -> u32
-    ensures { result ≡ refusal_number e }
-{
-    match e {
-        Refusal::BadSetting => 1,
-        Refusal::BadString => 2,
-        Refusal::OutOfTurn => 3,
-        Refusal::Truncated => 4,
-        Refusal::BadNumber => 5,
-        Refusal::BadKind => 6,
-        Refusal::TrailingBytes => 7,
-        Refusal::OutOfRange => 8,
-        Refusal::BufferTooShort => 9,
-        Refusal::BadBurst => 10,
-        Refusal::ListTooShort => 14,
-        Refusal::MessageLength => 15,
+impl From<Refusal> for u32 {
+    ghost from_gives = { λ e r. r ≡ refusal_number e };
+
+    fn from(e: Refusal) -> u32 {
+        match e {
+            Refusal::BadSetting => 1,
+            Refusal::BadString => 2,
+            Refusal::OutOfTurn => 3,
+            Refusal::Truncated => 4,
+            Refusal::BadNumber => 5,
+            Refusal::BadKind => 6,
+            Refusal::TrailingBytes => 7,
+            Refusal::OutOfRange => 8,
+            Refusal::BufferTooShort => 9,
+            Refusal::BadBurst => 10,
+            Refusal::ListTooShort => 14,
+            Refusal::MessageLength => 15,
+        }
     }
 }
 
-// A byte as a number of 32 bits.
+// A byte as a number of 32 bits. Beside std's conversion, which says the value alone, it says the bound that keeps sums and products of
+// bytes in range.
 pub fn wide(b: u8) -> u32
     ensures { (result ≡ b) × (result ≤ 255) }
 {
@@ -111,20 +118,6 @@ pub fn set_bit(s: &mut [u8], i: usize, b: bool)
     s[j] = s[j] ^ ((turned as u8) << (7 - i % 8));
 }
 
-// The len bits of `from` that start at `start` are written into `to` from place `at` on, one by one.
-fn copy_singly(from: &[u8], start: usize, len: usize, to: &mut [u8], at: usize)
-    requires part { Part from.now start len }
-    requires part_2 { Part to.old at len }
-    ensures { to.new ≡ write_bits to.old at (range from.now start len) }
-{
-    let mut i: usize = 0;
-    while i < len {
-        let b = get_bit(from, start + i);
-        set_bit(to, at + i, b);
-        i += 1;
-    }
-}
-
 // The eight bits from bit p on, as a byte.
 pub fn eight_bits(s: &[u8], p: usize) -> u8
     requires { p + 8 ≤ 8 * length s.now }
@@ -138,46 +131,10 @@ pub fn eight_bits(s: &[u8], p: usize) -> u8
     (s[j] << k) ^ (s[j + 1] >> (8 - k))
 }
 
-// The 8 * count bits of `from` that start at `start` become the count bytes of `to` from index `at` on.
-fn copy_bytes(from: &[u8], start: usize, count: usize, to: &mut [u8], at: usize)
-    requires part { Part from.now start (8 * count) }
-    requires count_in_bounds { at + count ≤ length to.old }
-    ensures { to.new ≡ write_bits to.old (8 * at) (range from.now start (8 * count)) }
-{
-    let mut i: usize = 0;
-    while i < count {
-        to[at + i] = eight_bits(from, start + 8 * i);
-        i += 1;
-    }
-}
-
-// The len bits of `from` that start at `start` are written into `to` from place `at` on: bits up to the first edge of a byte of `to`,
-// whole bytes as long as there are eight bits more, and the bits that are left.
-pub fn copy_bits(from: &[u8], start: usize, len: usize, to: &mut [u8], at: usize)
-    requires part { Part from.now start len }
-    requires part_2 { Part to.old at len }
-    ensures { to.new ≡ write_bits to.old at (range from.now start len) }
-{
-    let head = (8 - at % 8) % 8;
-    if len < head {
-        copy_singly(from, start, len, to, at);
-        return;
-    }
-    let count = (len - head) / 8;
-    let done = head + 8 * count;
-    copy_singly(from, start, head, to, at);
-    copy_bytes(from, start + head, count, to, (at + head) / 8);
-    copy_singly(from, start + done, len - done, to, at + done);
-}
-
 // The count bytes from index `at` on become 0.
 pub fn clear_bytes(s: &mut [u8], at: usize, count: usize)
     requires { at + count ≤ length s.old }
     ensures { s.new ≡ cleared s.old at count }
 {
-    let mut i: usize = 0;
-    while i < count {
-        s[at + i] = 0;
-        i += 1;
-    }
+    s[at..at + count].fill(0);
 }

@@ -1,9 +1,9 @@
 // The settings, their limits and the house settings.
-ghost use Rattle.std.specs.Prelude.{◌≡◌, true, false, ◌&&◌};
+ghost use Rattle.std.specs.Prelude.{◌≡◌};
 ghost use Rattle.strings.specs.SettingLimits.{between, anchor_limits, hash_limits, factor_limits, key_limits, house_settings, within_limits};
 
 // 01, "Strings and settings": anchor m, hash h, window factor k, key, ceiling.
-#[derive(Clone, Copy)]
+#[derive(Clone, Copy, Debug, PartialEq, Eq)]
 pub struct Settings {
     pub m: u32,
     pub h: u32,
@@ -40,41 +40,32 @@ impl Settings {
         ensures { result ≡ record { m = m; h = h; k = k; key = key; ceiling = ceiling } }
     {
         Settings {
-            m: m,
-            h: h,
-            k: k,
-            key: key,
-            ceiling: ceiling,
+            m,
+            h,
+            k,
+            key,
+            ceiling,
         }
     }
 
     // Whether each is within its limits.
+    #[tactic(auto, unfolding(crate::specs::SettingLimits::within_limits))]
     pub fn is_within_limits(self) -> bool
         ensures { result ≡ within_limits self }
     {
-        let rest = both(is_key(self.key), self.ceiling <= 16384);
-        both(
-            is_anchor_length(self.m),
-            both(is_hash_width(self.h), both(is_window_factor(self.k), rest)),
-        )
+        is_anchor_length(self.m)
+            && is_hash_width(self.h)
+            && is_window_factor(self.k)
+            && is_key(self.key)
+            && self.ceiling <= 16384
     }
-}
-
-// Both are true.
-pub fn both(a: bool, b: bool) -> bool
-    ensures { result ≡ (a && b) }
-{
-    if a {
-        return b;
-    }
-    false
 }
 
 // Whether v is lo to hi.
 pub fn is_between(lo: u32, v: u32, hi: u32) -> bool
     ensures { result ≡ between lo v hi }
 {
-    both(lo <= v, v <= hi)
+    lo <= v && v <= hi
 }
 
 // Whether m is within its limits.

@@ -1,6 +1,6 @@
-use mathlib.Core.Path.{ap, ◌∙◌}
-use Rattle.cabi.specs.Packing.{packed}
+use mathlib.Core.Path.{◌∙◌}
+use Rattle.cabi.specs.laws.PackingLaws.{number-packed}
 use Rattle.cabi.proofs.lo_hash.Goals as goal
 
 pub returns : goal.returns
-returns c = c.pack_number.ensures ∙ ap packed c.hash.ensures
+returns c = c.pack.ensures ∙ number-packed c.hash.result c.hash.ensures

@@ -1,10 +1,10 @@
 use mathlib.Core.Path.{◌≡◌, sym, ap, ◌∙◌}
 use mathlib.Core.Bool.{true}
-use Rattle.strings.specs.StringRule.{string_rule}
-use Rattle.ends.specs.RebuilderOutcome.{call_said}
+use Prim.Native.Nat.{ℕ, ◌*◌}
+use Rattle.cabi.specs.Packing.{value_unit}
 use Rattle.layout.specs.Layout.{is_rebuilder}
 use Rattle.layout.specs.laws.LayoutLaws.{rebuilder-long}
-use Rattle.cabi.specs.laws.RebuilderBytesLaws.{call-bad-string, RebuilderCalled, call_rows, call-small, call-declined, call-taken}
+use Rattle.cabi.specs.laws.RebuilderBytesLaws.{call-bad-string, RebuilderCalled, call_rows, call-ok-small, call-declined, call-ok-taken}
 use borrow.Author.Rules.{rules}
 use Rattle.cabi.proofs.lo_rebuilder_call.Goals as goal
 
@@ -13,137 +13,72 @@ returns-then-not-keeps_string_rule c = call-bad-string _ _ _ _ _ _ _ c.pack_refu
 
 pub read_rebuilder-st-requires : goal.read_rebuilder-st-requires
 read_rebuilder-st-requires c =
-    let state-held' : (is_rebuilder c.args.state.now ≡ true) = search rules in
-    rebuilder-long _ (state-held')
+    let held : (is_rebuilder c.args.state.now ≡ true) = search rules in
+    rebuilder-long _ held
 
 pub keep-requires : goal.keep-requires
 keep-requires c =
-    let state-held' : (is_rebuilder c.args.state.now ≡ true) = search rules in
-    let string-kept' : (let args = c.args in string_rule args.y.now args.bits ≡ true) = sym c.keeps_string_rule.ensures ∙ c.if-not-keeps_string_rule.false in
-    let called' : (RebuilderCalled) = let read = c.before.before.before in
-    let if2 = read.before.before in
-    let a = if2.args in
-    record {
-      s = a.state.now;
-      y = a.y.now;
-      bits = a.bits;
-      msg = a.msg.now;
-      string = a.string.now;
-      sheet = a.sheet.now;
-      question = a.question.now;
+    let held : (is_rebuilder c.args.state.now ≡ true) = search rules in
+    let called : RebuilderCalled = record {
+      s = c.args.state.now;
+      y = c.args.y.now;
+      bits = c.args.bits;
+      msg = c.args.msg.now;
+      string = c.args.string.now;
+      sheet = c.args.sheet.now;
+      question = c.args.question.now;
       string' = _;
       question' = _;
       st = _;
       out = c.rebuilder_call-out.result;
-      rule = string-kept';
-      whole = state-held';
-      read = read.read_rebuilder-st.ensures;
+      rule = sym c.keeps_string_rule.ensures ∙ c.if-not-keeps_string_rule.false;
+      whole = held;
+      read = c.read_rebuilder-st.ensures;
       said = c.rebuilder_call-out.ensures;
     } in
-    let k = called' in let long = rebuilder-long _ k.whole in record { rebuilder_size_in_bounds = search rules; change_in_bounds = call_rows k; size_bound = search rules }
+    let long = rebuilder-long _ held in record { rebuilder_size_in_bounds = search rules; change_in_bounds = call_rows called; size_bound = rw c.unwrap_or.ensures (call-ok-small called c.in-Ok.is) }
 
-pub keep-requires-in-Asks : goal.keep-requires-in-Asks
-keep-requires-in-Asks c =
-    let state-held' : (is_rebuilder c.args.state.now ≡ true) = search rules in
-    let string-kept' : (let args = c.args in string_rule args.y.now args.bits ≡ true) = sym c.keeps_string_rule.ensures ∙ c.if-not-keeps_string_rule.false in
-    let called' : (RebuilderCalled) = let read = c.before.before.before in
-    let if2 = read.before.before in
-    let a = if2.args in
-    record {
-      s = a.state.now;
-      y = a.y.now;
-      bits = a.bits;
-      msg = a.msg.now;
-      string = a.string.now;
-      sheet = a.sheet.now;
-      question = a.question.now;
+pub returns-in-Err : goal.returns-in-Err
+returns-in-Err c =
+    let held : (is_rebuilder c.args.state.now ≡ true) = search rules in
+    let called : RebuilderCalled = record {
+      s = c.args.state.now;
+      y = c.args.y.now;
+      bits = c.args.bits;
+      msg = c.args.msg.now;
+      string = c.args.string.now;
+      sheet = c.args.sheet.now;
+      question = c.args.question.now;
       string' = _;
       question' = _;
       st = _;
       out = c.rebuilder_call-out.result;
-      rule = string-kept';
-      whole = state-held';
-      read = read.read_rebuilder-st.ensures;
+      rule = sym c.keeps_string_rule.ensures ∙ c.if-not-keeps_string_rule.false;
+      whole = held;
+      read = c.read_rebuilder-st.ensures;
       said = c.rebuilder_call-out.ensures;
     } in
-    let k = called' in let long = rebuilder-long _ k.whole in record { rebuilder_size_in_bounds = search rules; change_in_bounds = call_rows k; size_bound = call-small k (ap call_said c.in-Asks.is) }
+    call-declined called c.in-Err.is c.pack_refusal-in-Err.ensures
 
-pub returns-in-Refused : goal.returns-in-Refused
-returns-in-Refused c =
-    let state-held' : (is_rebuilder c.args.state.now ≡ true) = search rules in
-    let string-kept' : (let args = c.args in string_rule args.y.now args.bits ≡ true) = sym c.keeps_string_rule.ensures ∙ c.if-not-keeps_string_rule.false in
-    let called' : (RebuilderCalled) = let read = c.before.before.before in
-    let if2 = read.before.before in
-    let a = if2.args in
-    record {
-      s = a.state.now;
-      y = a.y.now;
-      bits = a.bits;
-      msg = a.msg.now;
-      string = a.string.now;
-      sheet = a.sheet.now;
-      question = a.question.now;
+pub returns-in-Ok : goal.returns-in-Ok
+returns-in-Ok c =
+    let held : (is_rebuilder c.args.state.now ≡ true) = search rules in
+    let called : RebuilderCalled = record {
+      s = c.args.state.now;
+      y = c.args.y.now;
+      bits = c.args.bits;
+      msg = c.args.msg.now;
+      string = c.args.string.now;
+      sheet = c.args.sheet.now;
+      question = c.args.question.now;
       string' = _;
       question' = _;
       st = _;
       out = c.rebuilder_call-out.result;
-      rule = string-kept';
-      whole = state-held';
-      read = read.read_rebuilder-st.ensures;
-      said = c.rebuilder_call-out.ensures;
-    } in
-    call-declined (called') c.in-Refused.is c.pack_refusal-in-Refused.ensures
-
-pub returns-in-Finished : goal.returns-in-Finished
-returns-in-Finished c =
-    let state-held' : (is_rebuilder c.args.state.now ≡ true) = search rules in
-    let string-kept' : (let args = c.args in string_rule args.y.now args.bits ≡ true) = sym c.keeps_string_rule.ensures ∙ c.if-not-keeps_string_rule.false in
-    let called' : (RebuilderCalled) = let read = c.before.before.before in
-    let if2 = read.before.before in
-    let a = if2.args in
-    record {
-      s = a.state.now;
-      y = a.y.now;
-      bits = a.bits;
-      msg = a.msg.now;
-      string = a.string.now;
-      sheet = a.sheet.now;
-      question = a.question.now;
-      string' = _;
-      question' = _;
-      st = _;
-      out = c.rebuilder_call-out.result;
-      rule = string-kept';
-      whole = state-held';
-      read = read.read_rebuilder-st.ensures;
+      rule = sym c.keeps_string_rule.ensures ∙ c.if-not-keeps_string_rule.false;
+      whole = held;
+      read = c.read_rebuilder-st.ensures;
       said = c.rebuilder_call-out.ensures;
     } in
     let keep = c.keep.ensures in
-    call-taken (called') (ap call_said c.in-Finished.is) keep.value keep.state_after keep.sheet_after
-
-pub returns-in-Asks : goal.returns-in-Asks
-returns-in-Asks c =
-    let state-held' : (is_rebuilder c.args.state.now ≡ true) = search rules in
-    let string-kept' : (let args = c.args in string_rule args.y.now args.bits ≡ true) = sym c.keeps_string_rule.ensures ∙ c.if-not-keeps_string_rule.false in
-    let called' : (RebuilderCalled) = let read = c.before.before.before in
-    let if2 = read.before.before in
-    let a = if2.args in
-    record {
-      s = a.state.now;
-      y = a.y.now;
-      bits = a.bits;
-      msg = a.msg.now;
-      string = a.string.now;
-      sheet = a.sheet.now;
-      question = a.question.now;
-      string' = _;
-      question' = _;
-      st = _;
-      out = c.rebuilder_call-out.result;
-      rule = string-kept';
-      whole = state-held';
-      read = read.read_rebuilder-st.ensures;
-      said = c.rebuilder_call-out.ensures;
-    } in
-    let keep = c.keep-in-Asks.ensures in
-    call-taken (called') (ap call_said c.in-Asks.is) keep.value keep.state_after keep.sheet_after
+    call-ok-taken called c.in-Ok.is (keep.value ∙ ap (λ (n : ℕ). n * value_unit) c.unwrap_or.ensures) keep.state_after keep.sheet_after

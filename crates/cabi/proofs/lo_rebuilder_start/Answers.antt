@@ -1,7 +1,5 @@
-use mathlib.Core.Path.{◌≡◌, sym, ap, ◌∙◌}
-use mathlib.Core.Bool.{true}
+use mathlib.Core.Path.{sym, ap, ◌∙◌}
 use native.Mathlib.Omega.{arith}
-use Rattle.strings.specs.StringRule.{string_rule}
 use Rattle.strings.specs.SettingLimits.{within_limits}
 use Rattle.cabi.specs.laws.RebuilderBytesLaws.{start-bad-setting, start-bad-string, start-short, StartCalled, start_small, start-declined, start-begun}
 use Rattle.cabi.proofs.lo_rebuilder_start.Goals as goal
@@ -11,86 +9,65 @@ returns-then-not-is_within_limits c = start-bad-setting _ _ _ _ _ c.pack_refusal
 
 pub returns-then-not-keeps_string_rule : goal.returns-then-not-keeps_string_rule
 returns-then-not-keeps_string_rule c =
-    let limits-kept' : (let a = c.args in within_limits (record { m = a.m; h = a.h; k = a.k; key = a.key; ceiling = a.ceiling }) ≡ true) = ap within_limits (sym c.new-s.ensures) ∙ sym c.is_within_limits.ensures ∙ c.if-not-is_within_limits.false in
-    start-bad-string _ _ _ _ _ c.pack_refusal-then-not-keeps_string_rule.ensures (limits-kept') (sym c.keeps_string_rule.ensures ∙ c.if-not-keeps_string_rule.true)
+    start-bad-string _ _ _ _ _ c.pack_refusal-then-not-keeps_string_rule.ensures (ap within_limits (sym c.new-s.ensures) ∙ sym c.is_within_limits.ensures ∙ c.if-not-is_within_limits.false) (sym c.keeps_string_rule.ensures ∙ c.if-not-keeps_string_rule.true)
 
 pub returns-then-capacity-lt-REBUILDER_BYTES : goal.returns-then-capacity-lt-REBUILDER_BYTES
 returns-then-capacity-lt-REBUILDER_BYTES c =
-    let string-kept' : (let a = c.args in string_rule a.y.now a.bits ≡ true) = sym c.keeps_string_rule.ensures ∙ c.if-not-keeps_string_rule.false in
-    let limits-kept' : (let a = c.args in within_limits (record { m = a.m; h = a.h; k = a.k; key = a.key; ceiling = a.ceiling }) ≡ true) = ap within_limits (sym c.new-s.ensures) ∙ sym c.is_within_limits.ensures ∙ c.if-not-is_within_limits.false in
-    start-short _ _ _ _ _ (limits-kept') (string-kept') c.pack_refusal-then-capacity-lt-REBUILDER_BYTES.ensures c.if-capacity-lt-REBUILDER_BYTES.true
+    start-short _ _ _ _ _ (ap within_limits (sym c.new-s.ensures) ∙ sym c.is_within_limits.ensures ∙ c.if-not-is_within_limits.false) (sym c.keeps_string_rule.ensures ∙ c.if-not-keeps_string_rule.false) c.pack_refusal-then-capacity-lt-REBUILDER_BYTES.ensures c.if-capacity-lt-REBUILDER_BYTES.true
 
-pub overflow_mul-result : goal.overflow_mul-result
-overflow_mul-result c =
-    let string-kept' : (let a = c.args in string_rule a.y.now a.bits ≡ true) = sym c.keeps_string_rule.ensures ∙ c.if-not-keeps_string_rule.false in
-    let limits-kept' : (let a = c.args in within_limits (record { m = a.m; h = a.h; k = a.k; key = a.key; ceiling = a.ceiling }) ≡ true) = ap within_limits (sym c.new-s.ensures) ∙ sym c.is_within_limits.ensures ∙ c.if-not-is_within_limits.false in
-    let called' : (StartCalled) = let if3 = c.before.before in
-    let if1 = if3.before.before.before in
-    let new = if1.before.before in
-    let a = new.args in
-    record {
-      S = record { m = a.m; h = a.h; k = a.k; key = a.key; ceiling = a.ceiling };
+pub pack_value-requires : goal.pack_value-requires
+pack_value-requires c =
+    let called : StartCalled = record {
+      S = record { m = c.args.m; h = c.args.h; k = c.args.k; key = c.args.key; ceiling = c.args.ceiling };
       given = _;
-      y = a.y.now;
-      bits = a.bits;
-      s = a.state.now;
-      question = a.question.now;
+      y = c.args.y.now;
+      bits = c.args.bits;
+      s = c.args.state.now;
+      question = c.args.question.now;
       question' = _;
       out = c.rebuilder_start-out.result;
-      same = new.new-s.ensures;
-      limits = limits-kept';
-      rule = string-kept';
-      capacity = (let w = if3.if-capacity-lt-REBUILDER_BYTES.false in omega arith);
+      same = c.new-s.ensures;
+      limits = ap within_limits (sym c.new-s.ensures) ∙ sym c.is_within_limits.ensures ∙ c.if-not-is_within_limits.false;
+      rule = sym c.keeps_string_rule.ensures ∙ c.if-not-keeps_string_rule.false;
+      capacity = (let w = c.if-capacity-lt-REBUILDER_BYTES.false in omega arith);
       said = c.rebuilder_start-out.ensures;
     } in
-    let small = start_small (called') c.in-Begun.is in omega arith
+    let small = start_small called c.in-Ok.is in omega arith
 
-pub returns-in-NotBegun : goal.returns-in-NotBegun
-returns-in-NotBegun c =
-    let string-kept' : (let a = c.args in string_rule a.y.now a.bits ≡ true) = sym c.keeps_string_rule.ensures ∙ c.if-not-keeps_string_rule.false in
-    let limits-kept' : (let a = c.args in within_limits (record { m = a.m; h = a.h; k = a.k; key = a.key; ceiling = a.ceiling }) ≡ true) = ap within_limits (sym c.new-s.ensures) ∙ sym c.is_within_limits.ensures ∙ c.if-not-is_within_limits.false in
-    let called' : (StartCalled) = let if3 = c.before.before in
-    let if1 = if3.before.before.before in
-    let new = if1.before.before in
-    let a = new.args in
-    record {
-      S = record { m = a.m; h = a.h; k = a.k; key = a.key; ceiling = a.ceiling };
+pub returns-in-Err : goal.returns-in-Err
+returns-in-Err c =
+    let called : StartCalled = record {
+      S = record { m = c.args.m; h = c.args.h; k = c.args.k; key = c.args.key; ceiling = c.args.ceiling };
       given = _;
-      y = a.y.now;
-      bits = a.bits;
-      s = a.state.now;
-      question = a.question.now;
+      y = c.args.y.now;
+      bits = c.args.bits;
+      s = c.args.state.now;
+      question = c.args.question.now;
       question' = _;
       out = c.rebuilder_start-out.result;
-      same = new.new-s.ensures;
-      limits = limits-kept';
-      rule = string-kept';
-      capacity = (let w = if3.if-capacity-lt-REBUILDER_BYTES.false in omega arith);
+      same = c.new-s.ensures;
+      limits = ap within_limits (sym c.new-s.ensures) ∙ sym c.is_within_limits.ensures ∙ c.if-not-is_within_limits.false;
+      rule = sym c.keeps_string_rule.ensures ∙ c.if-not-keeps_string_rule.false;
+      capacity = (let w = c.if-capacity-lt-REBUILDER_BYTES.false in omega arith);
       said = c.rebuilder_start-out.ensures;
     } in
-    start-declined (called') c.in-NotBegun.is c.pack_refusal-in-NotBegun.ensures
+    start-declined called c.in-Err.is c.pack_refusal-in-Err.ensures
 
-pub returns-in-Begun : goal.returns-in-Begun
-returns-in-Begun c =
-    let string-kept' : (let a = c.args in string_rule a.y.now a.bits ≡ true) = sym c.keeps_string_rule.ensures ∙ c.if-not-keeps_string_rule.false in
-    let limits-kept' : (let a = c.args in within_limits (record { m = a.m; h = a.h; k = a.k; key = a.key; ceiling = a.ceiling }) ≡ true) = ap within_limits (sym c.new-s.ensures) ∙ sym c.is_within_limits.ensures ∙ c.if-not-is_within_limits.false in
-    let called' : (StartCalled) = let if3 = c.before.before in
-    let if1 = if3.before.before.before in
-    let new = if1.before.before in
-    let a = new.args in
-    record {
-      S = record { m = a.m; h = a.h; k = a.k; key = a.key; ceiling = a.ceiling };
+pub returns-in-Ok : goal.returns-in-Ok
+returns-in-Ok c =
+    let called : StartCalled = record {
+      S = record { m = c.args.m; h = c.args.h; k = c.args.k; key = c.args.key; ceiling = c.args.ceiling };
       given = _;
-      y = a.y.now;
-      bits = a.bits;
-      s = a.state.now;
-      question = a.question.now;
+      y = c.args.y.now;
+      bits = c.args.bits;
+      s = c.args.state.now;
+      question = c.args.question.now;
       question' = _;
       out = c.rebuilder_start-out.result;
-      same = new.new-s.ensures;
-      limits = limits-kept';
-      rule = string-kept';
-      capacity = (let w = if3.if-capacity-lt-REBUILDER_BYTES.false in omega arith);
+      same = c.new-s.ensures;
+      limits = ap within_limits (sym c.new-s.ensures) ∙ sym c.is_within_limits.ensures ∙ c.if-not-is_within_limits.false;
+      rule = sym c.keeps_string_rule.ensures ∙ c.if-not-keeps_string_rule.false;
+      capacity = (let w = c.if-capacity-lt-REBUILDER_BYTES.false in omega arith);
       said = c.rebuilder_start-out.ensures;
     } in
-    start-begun (called') c.in-Begun.is c.write_rebuilder.ensures
+    rw c.pack_value.ensures (start-begun called c.in-Ok.is c.write_rebuilder.ensures)

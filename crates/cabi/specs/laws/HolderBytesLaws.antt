@@ -1,5 +1,5 @@
 -- Laws of a fresh holder and of the holder's call on bytes: its returns, and that the bytes carry the state from call to call.
-use Rattle.std.specs.Prelude.{◌≡◌, Bool, true, false, List, ◌++◌, ℕ, ◌*◌, ◌≤◌, ◌<◌}
+use Rattle.std.specs.Prelude.{◌≡◌, Ok, Err, Bool, true, false, List, ◌++◌, ℕ, ◌*◌, ◌≤◌, ◌<◌}
 use Rattle.std.proofs.Math.Path.{refl, ap}
 use Rattle.std.proofs.Common.{sym, ◌∙◌, arith, length-append, length-take, length-drop, le-leb}
 use Rattle.std.proofs.Math.ListN.{length, drop}
@@ -8,7 +8,7 @@ use Rattle.strings.specs.Bits.{Bytes}
 use Rattle.strings.proofs.laws.RangeLaws.{range_length}
 use Rattle.strings.specs.StringRule.{string_rule}
 use Rattle.strings.specs.Refusals.{refusal_number}
-use Rattle.strings.specs.Results.{Result, refusal, value}
+use Rattle.strings.specs.Results.{Result, refusal, value, said}
 use Rattle.strings.specs.laws.ResultLaws.{no_value, value-is, unless-passed}
 use Rattle.strings.specs.declared.Refusal.{Refusal}
 use Rattle.strings.specs.declared.Refusal.TheVariants.{BadString, OutOfTurn}
@@ -29,9 +29,8 @@ use Rattle.ends.specs.Anchors.{part}
 use Rattle.ends.specs.Runs.{answer}
 use Rattle.ends.specs.HolderCall.{Reply, replies, holder_call, fresh_holder}
 use Rattle.ends.specs.laws.HolderLaws.{heard-call, Made, opens, counts, heard-made, holder-sound}
-use Rattle.ends.specs.declared.answering.HolderAnswer.TheVariants.{Replied, Refused}
 use Rattle.ends.specs.declared.answering.HolderOut.{HolderOut}
-use Rattle.ends.specs.HolderOutcome.{HolderSaid, answer_said, said_holder, leaves_holder}
+use Rattle.ends.specs.HolderOutcome.{HolderSaid, said_holder, leaves_holder}
 use Rattle.layout.specs.Layout.{holder_size, holder_bytes, holder_of, is_holder}
 use Rattle.layout.specs.laws.LayoutLaws.{HolderFits, holder-read, holder-bytes-front, length-holder}
 use Rattle.cabi.specs.Packing.{packed, value_unit}
@@ -102,40 +101,40 @@ module _ (s x : List ℕ) (bits : ℕ) (msg reply : List ℕ) where
 
 -- what the call on the state says, as bytes
 module _ (s reply reply' : List ℕ) (st : Holder) (out : HolderOut) where
-  holder-declined : (t : Result Reply) (e : Refusal) → said_holder out reply' ≡ leaves_holder st reply t → out.answer ≡ Refused e
+  holder-declined : (t : Result Reply) (e : Refusal) → said_holder out reply' ≡ leaves_holder st reply t → out.answer ≡ Err e
       → record { result = packed (refusal (refusal_number e)); state = s; reply = reply' } ≡ holder_left s reply t
   holder-declined (refusal number) e k f =
-      let a : answer_said out.answer ≡ refusal number = ap (λ (w : HolderSaid). w.answer) k in
+      let a : said out.answer ≡ refusal number = ap (λ (w : HolderSaid). w.answer) k in
       let b : refusal (refusal_number e) ≡ refusal number = rw f at a in
       let c : reply' ≡ reply = ap (λ (w : HolderSaid). w.reply) k in
       rw (b, c) refl
   holder-declined (value r) e k f =
-      let a : answer_said out.answer ≡ value (length r.message) = ap (λ (w : HolderSaid). w.answer) k in
+      let a : said out.answer ≡ value (length r.message) = ap (λ (w : HolderSaid). w.answer) k in
       let b : refusal (refusal_number e) ≡ value (length r.message) = rw f at a in
       absurd (no_value (refusal_number e) (length r.message) b)
 
-  holder-size : (t : Result Reply) (size : ℕ) → said_holder out reply' ≡ leaves_holder st reply t → out.answer ≡ Replied size
+  holder-size : (t : Result Reply) (size : ℕ) → said_holder out reply' ≡ leaves_holder st reply t → out.answer ≡ Ok size
       → ((r : Reply) → t ≡ value r → length r.message ≤ max_bits) → size ≤ max_bits
   holder-size (refusal number) size k f h =
-      let a : answer_said out.answer ≡ refusal number = ap (λ (w : HolderSaid). w.answer) k in
+      let a : said out.answer ≡ refusal number = ap (λ (w : HolderSaid). w.answer) k in
       let b : value size ≡ refusal number = rw f at a in
       absurd (no_value number size (sym b))
   holder-size (value r) size k f h =
-      let a : answer_said out.answer ≡ value (length r.message) = ap (λ (w : HolderSaid). w.answer) k in
+      let a : said out.answer ≡ value (length r.message) = ap (λ (w : HolderSaid). w.answer) k in
       let b : value size ≡ value (length r.message) = rw f at a in
       let c : size ≡ length r.message = value-is b in
       let i = h r refl in omega arith
 
-  holder-replied : (t : Result Reply) (size : ℕ) (s' : List ℕ) → said_holder out reply' ≡ leaves_holder st reply t → out.answer ≡ Replied size
+  holder-replied : (t : Result Reply) (size : ℕ) (s' : List ℕ) → said_holder out reply' ≡ leaves_holder st reply t → out.answer ≡ Ok size
       → s' ≡ holder_bytes out.state ++ drop holder_size s
       → record { result = size * value_unit; state = s'; reply = reply' } ≡ holder_left s reply t
   unfolding packed
   holder-replied (refusal number) size s' k f g =
-      let a : answer_said out.answer ≡ refusal number = ap (λ (w : HolderSaid). w.answer) k in
+      let a : said out.answer ≡ refusal number = ap (λ (w : HolderSaid). w.answer) k in
       let b : value size ≡ refusal number = rw f at a in
       absurd (no_value number size (sym b))
   holder-replied (value r) size s' k f g =
-      let a : answer_said out.answer ≡ value (length r.message) = ap (λ (w : HolderSaid). w.answer) k in
+      let a : said out.answer ≡ value (length r.message) = ap (λ (w : HolderSaid). w.answer) k in
       let b : value size ≡ value (length r.message) = rw f at a in
       let c : size ≡ length r.message = value-is b in
       let d : out.state ≡ r.state = ap (λ (w : HolderSaid). w.state) k in
@@ -159,6 +158,10 @@ pub record HolderCalled : Type 0 where
   pub read : st ≡ holder_of s
   pub said : said_holder out reply' ≡ leaves_holder st reply (holder_call st x bits msg (length reply))
 
+abbrev pub on_state : (s x : List ℕ) (bits : ℕ) (msg reply reply' : List ℕ) (st : Holder) (out : HolderOut) → string_rule x bits ≡ true → is_holder s ≡ true → st ≡ holder_of s
+    → said_holder out reply' ≡ leaves_holder st reply (holder_call st x bits msg (length reply)) → HolderCalled
+on_state s x bits msg reply reply' st out a b c d = record { s = s; x = x; bits = bits; msg = msg; reply = reply; reply' = reply'; st = st; out = out; rule = a; whole = b; read = c; said = d }
+
 -- and what shall be left; the answer's two cases
 module _ (k : HolderCalled) where
   abbrev pub holder_leaves : HolderLeft
@@ -171,16 +174,16 @@ module _ (k : HolderCalled) where
   called : holder_left k.s k.reply heard ≡ holder_leaves
   called = sym (rw (holder-called k.s k.x k.bits k.msg k.reply k.rule k.whole, k.read) refl)
 
-  pub answer-declined : {d : Refusal} {r : ℕ} → k.out.answer ≡ Refused d → r ≡ packed (refusal (refusal_number d)) → record { result = r; state = k.s; reply = k.reply' } ≡ holder_leaves
+  pub answer-declined : {d : Refusal} {r : ℕ} → k.out.answer ≡ Err d → r ≡ packed (refusal (refusal_number d)) → record { result = r; state = k.s; reply = k.reply' } ≡ holder_leaves
   answer-declined {d} a h = (rw h (holder-declined k.s k.reply k.reply' k.st k.out heard d k.said a)) ∙ called
 
-  pub answer-small : {size : ℕ} → k.out.answer ≡ Replied size → size ≤ max_bits
+  pub answer-small : {size : ℕ} → k.out.answer ≡ Ok size → size ≤ max_bits
   answer-small {size} a =
       holder-size k.s k.reply k.reply' k.st k.out heard size k.said a (reply-most k.st k.x k.bits k.msg (length k.reply))
 
-  pub answer-replied : {size : ℕ} {s' : List ℕ} → k.out.answer ≡ Replied size → s' ≡ holder_bytes k.out.state ++ drop holder_size k.s
-      → record { result = size * value_unit; state = s'; reply = k.reply' } ≡ holder_leaves
-  answer-replied {size} {s'} a h = holder-replied k.s k.reply k.reply' k.st k.out heard size s' k.said a h ∙ called
+  pub answer-replied : {size r : ℕ} {s' : List ℕ} → k.out.answer ≡ Ok size → r ≡ size * value_unit → s' ≡ holder_bytes k.out.state ++ drop holder_size k.s
+      → record { result = r; state = s'; reply = k.reply' } ≡ holder_leaves
+  answer-replied {size} {s' = s'} a h i = (rw h (holder-replied k.s k.reply k.reply' k.st k.out heard size s' k.said a i)) ∙ called
 
 -- ---- the bytes carry the state: what a taken call leaves, whatever follows it, is taken and read as its next state
 pub holder-carried : (s x : List ℕ) (bits : ℕ) (msg : List ℕ) (capacity : ℕ) (next : Holder) (m l : List ℕ) → HolderFits (holder_of s) → Bytes msg

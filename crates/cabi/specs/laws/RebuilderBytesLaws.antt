@@ -1,5 +1,5 @@
 -- Laws of the rebuilder's start and call on bytes: its returns, that a change of the sheet lies in its bytes, that results are small.
-use Rattle.std.specs.Prelude.{◌≡◌, true, false, List, [], ◌∷◌, ◌++◌, ℕ, ◌*◌, ◌≤◌, ◌<◌, drop}
+use Rattle.std.specs.Prelude.{◌≡◌, Option as CodeOption, Some, None, Ok, Err, unwrap_or, true, false, List, [], ◌∷◌, ◌++◌, ℕ, ◌*◌, ◌≤◌, ◌<◌, drop}
 use Rattle.std.proofs.Math.Path.{refl, ap}
 use Rattle.std.proofs.Common.{sym, ◌∙◌, arith, length-append}
 use Rattle.std.proofs.Math.Option.{Option, none, some}
@@ -8,7 +8,7 @@ use borrow.Author.Tests.{le-leb, lt-leb}
 use Rattle.strings.specs.Bits.{at_front}
 use Rattle.strings.specs.StringRule.{string_rule}
 use Rattle.strings.specs.Refusals.{refusal_number}
-use Rattle.strings.specs.Results.{Result, refusal, value}
+use Rattle.strings.specs.Results.{Result, refusal, value, said}
 use Rattle.strings.specs.laws.ResultLaws.{no_value, value-is}
 use Rattle.strings.specs.declared.Refusal.{Refusal}
 use Rattle.strings.specs.declared.Refusal.TheVariants.{BadSetting, BadString, OutOfTurn, BufferTooShort}
@@ -27,11 +27,9 @@ use Rattle.ends.specs.States.{planned}
 use Rattle.ends.specs.RebuilderCall.{Started, rebuilder_start, Taken, Capacities, rebuilder_call, written_question, step_of, string_after, rows_needed}
 use Rattle.ends.specs.laws.Asking.{TakenCall, taken-call}
 use Rattle.ends.specs.laws.Delivery.{started-is}
-use Rattle.ends.specs.declared.rebuilding.StartAnswer.TheVariants.{Begun, NotBegun}
 use Rattle.ends.specs.declared.rebuilding.StartOut.{StartOut}
-use Rattle.ends.specs.declared.rebuilding.RebuilderAnswer.TheVariants.{Refused}
 use Rattle.ends.specs.declared.rebuilding.RebuilderOut.{RebuilderOut}
-use Rattle.ends.specs.RebuilderOutcome.{start_said, StartSaid, said_start, leaves_start, call_said, RebuilderSaid, said_rebuilder, next_size, leaves_rebuilder}
+use Rattle.ends.specs.RebuilderOutcome.{StartSaid, said_start, leaves_start, call_said, RebuilderSaid, said_rebuilder, next_size, leaves_rebuilder}
 use Rattle.ends.proofs.code.SheetCallLaws.{change-fits}
 use Rattle.layout.specs.Layout.{rebuilder_size, rebuilder_bytes, rebuilder_of, is_rebuilder}
 use Rattle.layout.specs.laws.LayoutLaws.{length-rebuilder}
@@ -95,13 +93,22 @@ next-size : (m : List ℕ) → asked_size (next_size m) ≡ length m
 next-size [] = refl
 next-size (b ∷ m) = refl
 
+-- where the code does not turn down, it says what is asked next: o, whose length is 0 where there is none
+not_refused : (o : CodeOption ℕ) (number : ℕ) → call_said (Ok o) ≡ refusal number → ⊥
+not_refused (Some size) number e = no_value number (some size) (sym e)
+not_refused None number e = no_value number none (sym e)
+
+next_asked : (o : CodeOption ℕ) (n : Option ℕ) → call_said (Ok o) ≡ value n → unwrap_or o 0 ≡ asked_size n
+next_asked (Some size) n e = ap asked_size (value-is e)
+next_asked None n e = ap asked_size (value-is e)
+
 -- a state written to the front of bytes
 front : (s : List ℕ) (st next : Rebuilder) → st ≡ next → rebuilder_bytes st ++ drop rebuilder_size s ≡ at_front (rebuilder_bytes next) s
 front s st next e = ap (λ (z : Rebuilder). rebuilder_bytes z ++ drop rebuilder_size s) e ∙ ap (λ (n : ℕ). rebuilder_bytes next ++ drop n s) (sym (length-rebuilder next))
 
 -- what the call on the state says, as bytes
 module _ (s string sheet question string' question' : List ℕ) (st : Rebuilder) (out : RebuilderOut) where
-  said-declined : (t : Result Taken) (e : Refusal) → said_rebuilder out string' question' ≡ leaves_rebuilder st string question t → out.answer ≡ Refused e
+  said-declined : (t : Result Taken) (e : Refusal) → said_rebuilder out string' question' ≡ leaves_rebuilder st string question t → out.answer ≡ Err e
       → record { result = packed (refusal (refusal_number e)); state = s; string = string'; sheet = sheet; question = question' } ≡ rebuilder_left s string sheet question t
   said-declined (refusal number) e k f =
       let a : call_said out.answer ≡ refusal number = ap (λ (w : RebuilderSaid). w.answer) k in
@@ -116,11 +123,11 @@ module _ (s string sheet question string' question' : List ℕ) (st : Rebuilder)
       absurd (no_value (refusal_number e) (next_size t.question) (sym i ∙ a))
 
   -- n is the length of the next question, if there is one
-  module _ (n : Option ℕ) (said : call_said out.answer ≡ value n) where
+  module _ (n : Option ℕ) (is : call_said out.answer ≡ value n) where
     said-size : (t : Taken) → said_rebuilder out string' question' ≡ leaves_rebuilder st string question (value t) → asked_size n ≡ length t.question
     said-size t k =
         let a : call_said out.answer ≡ value (next_size t.question) = ap (λ (w : RebuilderSaid). w.answer) k in
-        ap asked_size (value-is (sym said ∙ a)) ∙ next-size t.question
+        ap asked_size (value-is (sym is ∙ a)) ∙ next-size t.question
 
     said-taken : (t : Result Taken) (s' sheet' : List ℕ) → said_rebuilder out string' question' ≡ leaves_rebuilder st string question t
         → s' ≡ rebuilder_bytes out.state ++ drop rebuilder_size s → sheet' ≡ sheet_bytes_after sheet out.sheet
@@ -128,7 +135,7 @@ module _ (s string sheet question string' question' : List ℕ) (st : Rebuilder)
     unfolding packed
     said-taken (refusal number) s' sheet' k g h =
         let a : call_said out.answer ≡ refusal number = ap (λ (w : RebuilderSaid). w.answer) k in
-        absurd (no_value number n (sym a ∙ said))
+        absurd (no_value number n (sym a ∙ is))
     said-taken (value t) s' sheet' k g h =
         let a = said-size t k in
         let b : out.state ≡ t.step.state = ap (λ (w : RebuilderSaid). w.state) k in
@@ -142,8 +149,38 @@ module _ (s string sheet question string' question' : List ℕ) (st : Rebuilder)
         → ((v : Taken) → t ≡ value v → length v.question ≤ 16) → asked_size n ≤ 16
     said-small (refusal number) k h =
         let a : call_said out.answer ≡ refusal number = ap (λ (w : RebuilderSaid). w.answer) k in
-        absurd (no_value number n (sym a ∙ said))
+        absurd (no_value number n (sym a ∙ is))
     said-small (value t) k h = let a = said-size t k in let i = h t refl in omega arith
+
+  -- o is the same length as the code says it
+  module _ (o : CodeOption ℕ) (is : out.answer ≡ Ok o) where
+    ok-size : (t : Taken) → said_rebuilder out string' question' ≡ leaves_rebuilder st string question (value t) → unwrap_or o 0 ≡ length t.question
+    ok-size t k =
+        let a : call_said out.answer ≡ value (next_size t.question) = ap (λ (w : RebuilderSaid). w.answer) k in
+        next_asked o (next_size t.question) (sym (ap call_said is) ∙ a) ∙ next-size t.question
+
+    ok-taken : (t : Result Taken) (s' sheet' : List ℕ) → said_rebuilder out string' question' ≡ leaves_rebuilder st string question t
+        → s' ≡ rebuilder_bytes out.state ++ drop rebuilder_size s → sheet' ≡ sheet_bytes_after sheet out.sheet
+        → record { result = unwrap_or o 0 * value_unit; state = s'; string = string'; sheet = sheet'; question = question' } ≡ rebuilder_left s string sheet question t
+    unfolding packed
+    ok-taken (refusal number) s' sheet' k g h =
+        let a : call_said out.answer ≡ refusal number = ap (λ (w : RebuilderSaid). w.answer) k in
+        absurd (not_refused o number (sym (ap call_said is) ∙ a))
+    ok-taken (value t) s' sheet' k g h =
+        let a = ok-size t k in
+        let b : out.state ≡ t.step.state = ap (λ (w : RebuilderSaid). w.state) k in
+        let c : out.sheet ≡ t.step.sheet = ap (λ (w : RebuilderSaid). w.sheet) k in
+        let d : string' ≡ string_after string t.step.string = ap (λ (w : RebuilderSaid). w.string) k in
+        let f : question' ≡ at_front t.question question = ap (λ (w : RebuilderSaid). w.question) k in
+        let i : s' ≡ at_front (rebuilder_bytes t.step.state) s = g ∙ front s out.state t.step.state b in
+        rw (a, i, h, c, d, f) refl
+
+    ok-small : (t : Result Taken) → said_rebuilder out string' question' ≡ leaves_rebuilder st string question t
+        → ((v : Taken) → t ≡ value v → length v.question ≤ 16) → unwrap_or o 0 ≤ 16
+    ok-small (refusal number) k h =
+        let a : call_said out.answer ≡ refusal number = ap (λ (w : RebuilderSaid). w.answer) k in
+        absurd (not_refused o number (sym (ap call_said is) ∙ a))
+    ok-small (value t) k h = let a = ok-size t k in let i = h t refl in omega arith
 
 -- for the code: what is known where the call on the state that was read has answered
 pub record RebuilderCalled : Type 0 where
@@ -182,7 +219,7 @@ module _ (k : RebuilderCalled) where
   called : rebuilder_left k.s k.string k.sheet k.question heard ≡ called_leaves
   called = sym (rw (rebuilder-called k.s k.y k.bits k.msg k.string k.sheet k.question k.rule k.whole, k.read) refl)
 
-  pub call-declined : {d : Refusal} {r : ℕ} → k.out.answer ≡ Refused d → r ≡ packed (refusal (refusal_number d))
+  pub call-declined : {d : Refusal} {r : ℕ} → k.out.answer ≡ Err d → r ≡ packed (refusal (refusal_number d))
       → record { result = r; state = k.s; string = k.string'; sheet = k.sheet; question = k.question' } ≡ called_leaves
   call-declined {d} a h =
       (rw h (said-declined k.s k.string k.sheet k.question k.string' k.question' k.st k.out heard d k.said a)) ∙ called
@@ -197,6 +234,17 @@ module _ (k : RebuilderCalled) where
         → record { result = r; state = s'; string = k.string'; sheet = sheet'; question = k.question' } ≡ called_leaves
     call-taken {r} {s'} {sheet'} h i j =
         (rw h (said-taken k.s k.string k.sheet k.question k.string' k.question' k.st k.out n a heard s' sheet' k.said i j)) ∙ called
+
+  module _ {o : CodeOption ℕ} (a : k.out.answer ≡ Ok o) where
+    pub call-ok-small : unwrap_or o 0 ≤ 16
+    call-ok-small =
+        ok-small k.s k.string k.sheet k.question k.string' k.question' k.st k.out o a heard k.said
+        (taken-small k.st k.y k.bits k.msg capacities)
+
+    pub call-ok-taken : {r : ℕ} {s' sheet' : List ℕ} → r ≡ unwrap_or o 0 * value_unit → s' ≡ rebuilder_bytes k.out.state ++ drop rebuilder_size k.s → sheet' ≡ sheet_bytes_after k.sheet k.out.sheet
+        → record { result = r; state = s'; string = k.string'; sheet = sheet'; question = k.question' } ≡ called_leaves
+    call-ok-taken {r} {s'} {sheet'} h i j =
+        (rw h (ok-taken k.s k.string k.sheet k.question k.string' k.question' k.st k.out o a heard s' sheet' k.said i j)) ∙ called
 
 -- ---- the returns of the start
 module _ (S : Settings) (y : List ℕ) (bits : ℕ) (s question : List ℕ) where
@@ -221,45 +269,45 @@ module _ (S : Settings) (y : List ℕ) (bits : ℕ) (s question : List ℕ) wher
     started h = rw (e, f, le-leb rebuilder_size (length s) h) refl
 
 module _ (s question question' : List ℕ) (out : StartOut) where
-  start-declines : (t : Result Started) (e : Refusal) → said_start out question' ≡ leaves_start question t → out.answer ≡ NotBegun e
+  start-declines : (t : Result Started) (e : Refusal) → said_start out question' ≡ leaves_start question t → out.answer ≡ Err e
       → record { result = packed (refusal (refusal_number e)); state = s; question = question' } ≡ start_left s question t
   start-declines (refusal number) e k f =
-      let a : start_said out.answer ≡ refusal number = ap (λ (w : StartSaid). w.answer) k in
-      let i : start_said out.answer ≡ refusal (refusal_number e) = ap start_said f in
+      let a : said out.answer ≡ refusal number = ap (λ (w : StartSaid). w.answer) k in
+      let i : said out.answer ≡ refusal (refusal_number e) = ap said f in
       let b : refusal_number e ≡ number = cc in
       let g : question' ≡ question = ap (λ (w : StartSaid). w.question) k in
       rw (b, g) refl
   start-declines (value b) e k f =
-      let a : start_said out.answer ≡ value (length b.question) = ap (λ (w : StartSaid). w.answer) k in
-      let i : start_said out.answer ≡ refusal (refusal_number e) = ap start_said f in
+      let a : said out.answer ≡ value (length b.question) = ap (λ (w : StartSaid). w.answer) k in
+      let i : said out.answer ≡ refusal (refusal_number e) = ap said f in
       absurd (no_value (refusal_number e) (length b.question) (sym i ∙ a))
 
-  start-begins : (t : Result Started) (size : ℕ) (s' : List ℕ) → said_start out question' ≡ leaves_start question t → out.answer ≡ Begun size
+  start-begins : (t : Result Started) (size : ℕ) (s' : List ℕ) → said_start out question' ≡ leaves_start question t → out.answer ≡ Ok size
       → s' ≡ rebuilder_bytes out.state ++ drop rebuilder_size s
       → record { result = size * value_unit; state = s'; question = question' } ≡ start_left s question t
   unfolding packed
   start-begins (refusal number) size s' k f g =
-      let a : start_said out.answer ≡ refusal number = ap (λ (w : StartSaid). w.answer) k in
-      let i : start_said out.answer ≡ value size = ap start_said f in
+      let a : said out.answer ≡ refusal number = ap (λ (w : StartSaid). w.answer) k in
+      let i : said out.answer ≡ value size = ap said f in
       absurd (no_value number size (sym a ∙ i))
   start-begins (value v) size s' k f g =
-      let a : start_said out.answer ≡ value (length v.question) = ap (λ (w : StartSaid). w.answer) k in
-      let j : start_said out.answer ≡ value size = ap start_said f in
+      let a : said out.answer ≡ value (length v.question) = ap (λ (w : StartSaid). w.answer) k in
+      let j : said out.answer ≡ value size = ap said f in
       let b : size ≡ length v.question = value-is (sym j ∙ a) in
       let c : out.state ≡ v.state = ap (λ (w : StartSaid). w.state) k in
       let d : question' ≡ at_front v.question question = ap (λ (w : StartSaid). w.question) k in
       let h : s' ≡ at_front (rebuilder_bytes v.state) s = g ∙ front s out.state v.state c in
       rw (b, h, d) refl
 
-  start-size : (t : Result Started) (size : ℕ) → said_start out question' ≡ leaves_start question t → out.answer ≡ Begun size
+  start-size : (t : Result Started) (size : ℕ) → said_start out question' ≡ leaves_start question t → out.answer ≡ Ok size
       → ((v : Started) → t ≡ value v → length v.question ≤ 16) → size ≤ 16
   start-size (refusal number) size k f h =
-      let a : start_said out.answer ≡ refusal number = ap (λ (w : StartSaid). w.answer) k in
-      let i : start_said out.answer ≡ value size = ap start_said f in
+      let a : said out.answer ≡ refusal number = ap (λ (w : StartSaid). w.answer) k in
+      let i : said out.answer ≡ value size = ap said f in
       absurd (no_value number size (sym a ∙ i))
   start-size (value v) size k f h =
-      let a : start_said out.answer ≡ value (length v.question) = ap (λ (w : StartSaid). w.answer) k in
-      let j : start_said out.answer ≡ value size = ap start_said f in
+      let a : said out.answer ≡ value (length v.question) = ap (λ (w : StartSaid). w.answer) k in
+      let j : said out.answer ≡ value size = ap said f in
       let b : size ≡ length v.question = value-is (sym j ∙ a) in
       let i = h v refl in omega arith
 
@@ -287,7 +335,7 @@ module _ (k : StartCalled) where
   said-began : said_start k.out k.question' ≡ leaves_start k.question began
   said-began = k.said ∙ ap (λ (z : Settings). leaves_start k.question (rebuilder_start z k.y k.bits (length k.question))) k.same
 
-  pub start_small : {size : ℕ} → k.out.answer ≡ Begun size → size ≤ 16
+  pub start_small : {size : ℕ} → k.out.answer ≡ Ok size → size ≤ 16
   start_small {size} a =
       start-size k.s k.question k.question' k.out began size said-began a
       (λ v t. rw (started-is k.S k.y k.bits (length k.question) v.state v.question t).question (question-most (AskOpen k.S.h k.S.key)))
@@ -298,9 +346,9 @@ module _ (k : StartCalled) where
   began-leaves : start_left k.s k.question began ≡ start_leaves
   began-leaves = sym (rw (started k.S k.y k.bits k.s k.question k.limits k.rule k.capacity) refl)
 
-  pub start-declined : {d : Refusal} {r : ℕ} → k.out.answer ≡ NotBegun d → r ≡ packed (refusal (refusal_number d)) → record { result = r; state = k.s; question = k.question' } ≡ start_leaves
+  pub start-declined : {d : Refusal} {r : ℕ} → k.out.answer ≡ Err d → r ≡ packed (refusal (refusal_number d)) → record { result = r; state = k.s; question = k.question' } ≡ start_leaves
   start-declined {d} a i = (rw i (start-declines k.s k.question k.question' k.out began d said-began a)) ∙ began-leaves
 
-  pub start-begun : {size : ℕ} {s' : List ℕ} → k.out.answer ≡ Begun size → s' ≡ rebuilder_bytes k.out.state ++ drop rebuilder_size k.s
+  pub start-begun : {size : ℕ} {s' : List ℕ} → k.out.answer ≡ Ok size → s' ≡ rebuilder_bytes k.out.state ++ drop rebuilder_size k.s
       → record { result = size * value_unit; state = s'; question = k.question' } ≡ start_leaves
   start-begun {size} {s'} a i = start-begins k.s k.question k.question' k.out began size s' said-began a i ∙ began-leaves

@@ -1,7 +1,7 @@
 -- Laws of a column that is copied by bytes: bits at equal distances, eight of them as a byte, and a column as these bits.
 use Rattle.std.specs.Prelude.{◌≡◌, Bool, true, false, length, set, eqb}
 use Rattle.std.proofs.Math.Path.{refl, sym, ap, ap₂}
-use Rattle.std.proofs.Common.{◌∙◌, subst, add-mul, zero-add, suc-add, le-div_iff_mul-le, length-append}
+use Rattle.std.proofs.Common.{◌∙◌, add-mul, zero-add, suc-add, le-div_iff_mul-le, length-append, subst}
 use mathlib.Core.List.{List, [], ◌∷◌, ◌++◌}
 use Prim.Native.Nat.{ℕ, zero, suc, ◌+◌, ◌-◌, ◌*◌, ◌/◌, ◌%◌, ◌^◌, ◌≤◌, ◌<◌}
 use Rattle.std.proofs.Math.Nat.{suc-mul, zero-mul}

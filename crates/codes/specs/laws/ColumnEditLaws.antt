@@ -1,9 +1,9 @@
 -- Laws of the columns' edits as the code finds them: if every column has one, the woven string is the repair.
-use Rattle.std.specs.Prelude.{◌≡◌, refl, Bool, true, false, List, ℕ, zero, suc, ◌+◌, ◌*◌, ◌≤◌, ◌<◌, length, take, get_or, set, replicate}
-use Rattle.std.proofs.Common.{sym, ap, ap₂, ◌∙◌, subst, ⊎_elim, suc-mul, mul-le-mul, arith, get_or-take, get_or-set_same, get_or-set_other, length-take-le, lt-ltb, le-ltb}
-use Rattle.std.proofs.Math.Option.{Option, none, some}
+use Rattle.std.specs.Prelude.{◌≡◌, refl, Bool, true, false, List, ℕ, zero, suc, ◌+◌, ◌*◌, ◌≤◌, ◌<◌, length, take, get_or, set, replicate, Option as Found, Some, None}
+use Rattle.std.proofs.Common.{sym, ap, ap₂, ◌∙◌, subst, ⊎_elim, suc-mul, arith, get_or-take, get_or-set_same, get_or-set_other, length-take-le, lt-ltb, le-ltb, mul-le-mul}
+use Rattle.std.proofs.Math.Option.{none, some, Option}
 use Rattle.std.proofs.Math.Decide.{ℕ_discrete}
-use Rattle.strings.specs.Bits.{max_bits, range}
+use Rattle.strings.specs.Bits.{range, max_bits}
 use Rattle.strings.specs.laws.Tests.{true-false}
 use Rattle.strings.proofs.laws.RangeLaws.{range_length}
 use Rattle.codes.specs.Repair.{without, insert_at, repair_to}
@@ -11,12 +11,10 @@ use Rattle.codes.specs.Columns.{column, column_length, repair_run, RunApart}
 use Rattle.codes.specs.laws.RepairLaws.{length-insert, length_without}
 use Rattle.codes.specs.laws.EditLaws.{found-is, found-fits, nothing_is}
 use Rattle.codes.specs.laws.ColumnLaws.{column-length, column-length-run, column-away, repair-to-found, repair-run-none}
-use Rattle.codes.specs.code.Weaving.{woven, ColumnEdit, ColumnFound, Located, found_run, Placed}
+use Rattle.codes.specs.code.Weaving.{woven, ColumnEdit, ColumnFound, Located, Placed, found_run}
 use Rattle.codes.specs.code.Edits.{edited, Fits, repaired, RepairFits}
 use Rattle.codes.specs.declared.edits.Edit.{Edit}
 use Rattle.codes.specs.declared.edits.Edit.TheVariants.{Put, Take}
-use Rattle.codes.specs.declared.edits.Repair.{Repair}
-use Rattle.codes.specs.declared.edits.Repair.TheVariants.{Found, Nothing}
 use Rattle.codes.specs.laws.ColumnReadLaws.{column-inside}
 use Rattle.codes.specs.laws.WeavingLaws.{woven-repairs}
 
@@ -95,7 +93,7 @@ apart-range s start len n B away = subst (λ (x : ℕ). RunApart B x n) (sym (ra
 
 -- the same from what the search in the buffer u gives, which holds the column's m bits
 module _ (s : List ℕ) (start len n B j a : ℕ) (pos : 1 ≤ B) (h : j < B) (away : RunApart B len n) (u : List ℕ) (m m' : ℕ) (e : m ≡ column_length B j len) (f : m' ≡ column_length B j n)
-    (held : range u 0 (column_length B j len) ≡ column B j (range s start len)) (r : Repair) (is : repaired r (range u 0 m) ≡ repair_to m' a (range u 0 m)) where
+    (held : range u 0 (column_length B j len) ≡ column B j (range s start len)) (r : Found Edit) (is : repaired r (range u 0 m) ≡ repair_to m' a (range u 0 m)) where
   abbrev copied : List Bool
   copied = range s start len
 
@@ -107,10 +105,10 @@ module _ (s : List ℕ) (start len n B j a : ℕ) (pos : 1 ≤ B) (h : j < B) (a
       let c : range u 0 m ≡ column B j copied = ap (range u 0) e ∙ held in
       ap (repaired r) (sym c) ∙ is ∙ ap₂ (λ (k : ℕ) (l : List Bool). repair_to k a l) f c
 
-  pub searched-nothing : r ≡ Nothing → ColumnFound B n a copied j false 0 false
+  pub searched-nothing : r ≡ None → ColumnFound B n a copied j false 0 false
   searched-nothing q = column-nothing B n a copied j pos h (apart-range s start len n B away) (nothing_is r (column B j copied) _ searched q)
 
-  pub searched-found : RepairFits r m → (x : Edit) → r ≡ Found x → (found : Bool) (p : ℕ) (y : Bool) → Located x B j found p y → ColumnFound B n a copied j found p y
+  pub searched-found : RepairFits r m → (x : Edit) → r ≡ Some x → (found : Bool) (p : ℕ) (y : Bool) → Located x B j found p y → ColumnFound B n a copied j found p y
   searched-found g x q found p y w =
       column-found B n a copied j pos h (apart-range s start len n B away) x found p y
       (subst (Fits x) (sym copied-length) (found-fits r m x g q)) (found-is r (column B j copied) _ searched x q) w

@@ -1,14 +1,14 @@
 -- Laws of a column as the code reads it: its length, what is left of it at a turn of the loop, and the buffer that holds it.
-use Rattle.std.specs.Prelude.{◌≡◌, Bool, false, List, [], ◌∷◌, ℕ, suc, ◌+◌, ◌-◌, ◌*◌, ◌/◌, ◌≤◌, ◌<◌, length, drop, get_or}
-use Rattle.std.proofs.Common.{sym, ap, ap₂, ◌∙◌, suc-mul, add-zero, div-lt_iff_lt-mul, le-div_iff_mul-le, mul-le-mul_left, arith, length-drop, drop_of_length-le, drop-drop, get_or-drop}
-use Rattle.std.proofs.Math.Nat.{div-eq_of_lt}
-use Rattle.std.proofs.Math.Decide.{dec_le}
-use Rattle.strings.specs.Bits.{bit_at, max_bits, range, set_bit, write_bits, Part}
+use Rattle.std.specs.Prelude.{◌≡◌, Bool, false, List, [], ◌∷◌, ℕ, suc, ◌+◌, ◌-◌, ◌*◌, ◌≤◌, ◌<◌, length, drop, get_or, ◌/◌}
+use Rattle.std.proofs.Common.{sym, ap, ap₂, ◌∙◌, suc-mul, add-zero, le-div_iff_mul-le, arith, length-drop, drop_of_length-le, drop-drop, get_or-drop, div-lt_iff_lt-mul, mul-le-mul_left}
+use Rattle.strings.specs.Bits.{bit_at, range, set_bit, write_bits, Part, max_bits}
 use Rattle.strings.proofs.laws.RangeLaws.{range_length, range_at}
-use Rattle.strings.proofs.laws.WriteLaws.{length-write_bits, write-next, write-inside}
+use Rattle.strings.proofs.laws.WriteLaws.{length-write_bits, write-none, write-next, write-inside}
 use Rattle.codes.specs.Columns.{column, column_length}
 use Rattle.codes.specs.Syndrome.{syndrome}
 use Rattle.codes.specs.laws.ColumnLaws.{column-drop, column-first, column-length, column-length-behind}
+use Rattle.std.proofs.Math.Nat.{div-eq_of_lt}
+use Rattle.std.proofs.Math.Decide.{dec_le}
 
 -- ---- the length of a column, and its bound
 pub column-length-of : (B j n : ℕ) → j < B → (n + (B - 1 - j)) / B ≡ column_length B j n
@@ -62,6 +62,12 @@ module _ (s : List ℕ) (start len B : ℕ) (pos : 1 ≤ B) where
   column-copied t t' u k i x h e f g =
       let r = column_rest B (range s start len) (i + B) in
       ap (λ (y : List ℕ). write_bits y (k + 1) r) f ∙ sym (write-next t k x r) ∙ ap (write_bits t k) (sym (column-turn i x h e)) ∙ g
+
+  -- behind the range nothing of it is left to copy
+  pub column-all-copied : (t u : List ℕ) (k i : ℕ) → len ≤ i → write_bits t k (column_rest B (range s start len) i) ≡ u → t ≡ u
+  column-all-copied t u k i h e =
+      let n = range_length s start len in
+      sym (write-none t k) ∙ ap (write_bits t k) (sym (column-rest-last B i (range s start len) (omega arith))) ∙ e
 
 -- ---- the length of a column of a range
 pub column-count : (s : List ℕ) (start len B j : ℕ) → 1 ≤ B → length (column B j (range s start len)) ≡ column_length B j len

@@ -1,5 +1,5 @@
 -- Laws of edits: what is found is 01's repair; an edited range in parts, its copy and its hash.
-use Rattle.std.specs.Prelude.{◌≡◌, Bool, List, [], ◌∷◌, ◌++◌, ℕ, suc, ◌+◌, ◌-◌, ◌%◌, ◌^◌, ◌≤◌, ◌<◌, length}
+use Rattle.std.specs.Prelude.{◌≡◌, Bool, List, [], ◌∷◌, ◌++◌, ℕ, suc, ◌+◌, ◌-◌, ◌%◌, ◌^◌, ◌≤◌, ◌<◌, length, Option as Found, Some, None}
 use Rattle.std.proofs.Math.Path.{sym}
 use Rattle.std.proofs.Common.{ap, ap₂, ◌∙◌, subst, arith}
 use Rattle.std.proofs.Math.Option.{Option, none, some}
@@ -16,8 +16,6 @@ use Rattle.codes.specs.laws.HashLaws.{went_on, went-cut}
 use Rattle.codes.specs.code.Edits.{edited, Fits, repaired, RepairFits}
 use Rattle.codes.specs.declared.edits.Edit.{Edit}
 use Rattle.codes.specs.declared.edits.Edit.TheVariants.{Put, Take}
-use Rattle.codes.specs.declared.edits.Repair.{Repair}
-use Rattle.codes.specs.declared.edits.Repair.TheVariants.{Found, Nothing}
 
 -- ---- the code's places give 01's repairs, from the numbers that a function holds
 module _ (a : ℕ) (l : List Bool) (len : ℕ) (n : length l ≡ len) where
@@ -37,15 +35,15 @@ module _ (a : ℕ) (l : List Bool) (len : ℕ) (n : length l ≡ len) where
   take_none i e h = sym (take-place-none a l (omega arith))
 
 -- ---- what the arms of a match on a repair know, where it gives o
-module _ (r : Repair) (l : List Bool) (o : Option (List Bool)) (f : repaired r l ≡ o) where
-  pub found-is : (e : Edit) → r ≡ Found e → o ≡ some (edited e l)
-  found-is e h = sym f ∙ ap (λ (x : Repair). repaired x l) h
+module _ (r : Found Edit) (l : List Bool) (o : Option (List Bool)) (f : repaired r l ≡ o) where
+  pub found-is : (e : Edit) → r ≡ Some e → o ≡ some (edited e l)
+  found-is e h = sym f ∙ ap (λ (x : Found Edit). repaired x l) h
 
-  pub nothing_is : r ≡ Nothing → o ≡ none
-  nothing_is h = sym f ∙ ap (λ (x : Repair). repaired x l) h
+  pub nothing_is : r ≡ None → o ≡ none
+  nothing_is h = sym f ∙ ap (λ (x : Found Edit). repaired x l) h
 
-pub found-fits : (r : Repair) (len : ℕ) (e : Edit) → RepairFits r len → r ≡ Found e → Fits e len
-found-fits r len e f h = subst (λ (x : Repair). RepairFits x len) h f
+pub found-fits : (r : Found Edit) (len : ℕ) (e : Edit) → RepairFits r len → r ≡ Some e → Fits e len
+found-fits r len e f h = subst (λ (x : Found Edit). RepairFits x len) h f
 
 -- ---- what the arms of a match on an edit know
 pub edited-as : (e x : Edit) (l : List Bool) → e ≡ x → edited x l ≡ edited e l
@@ -72,6 +70,13 @@ module _ (s : List ℕ) (start len i : ℕ) where
       let q : len - suc i ≡ len - i - 1 = omega arith in
       ap₂ (λ (x y : List Bool). x ++ y) (range-take s start len i (omega arith)) (range-drop s start len (suc i) (omega arith) ∙ ap₂ (range s) p q)
 
+  -- the same with the bits behind the first i + 1
+  skip-parts : i < len → without i (range s start len) ≡ range s start i ++ range s (start + (i + 1)) (len - (i + 1))
+  skip-parts h =
+      let p : start + suc i ≡ start + (i + 1) = omega arith in
+      let q : len - suc i ≡ len - (i + 1) = omega arith in
+      ap₂ (λ (x y : List Bool). x ++ y) (range-take s start len i (omega arith)) (range-drop s start len (suc i) (omega arith) ∙ ap₂ (range s) p q)
+
   -- bits written behind the first i
   write-behind : (t : List ℕ) (at : ℕ) (l : List Bool) → write_bits (write_bits t at (range s start i)) (at + i) l ≡ write_bits t at (range s start i ++ l)
   write-behind t at l =
@@ -90,6 +95,12 @@ module _ (s : List ℕ) (start len i : ℕ) where
       f ∙ ap (λ (x : List ℕ). write_bits x (at + i) (range s (start + i + 1) (len - i - 1))) e
       ∙ write-behind t at (range s (start + i + 1) (len - i - 1)) ∙ ap (write_bits t at) (sym (take-parts h))
 
+  pub skip-copied : (t t₁ t₂ : List ℕ) (at : ℕ) → i < len → t₁ ≡ write_bits t at (range s start i)
+      → t₂ ≡ write_bits t₁ (at + i) (range s (start + (i + 1)) (len - (i + 1))) → t₂ ≡ write_bits t at (without i (range s start len))
+  skip-copied t t₁ t₂ at h e f =
+      f ∙ ap (λ (x : List ℕ). write_bits x (at + i) (range s (start + (i + 1)) (len - (i + 1)))) e
+      ∙ write-behind t at (range s (start + (i + 1)) (len - (i + 1))) ∙ ap (write_bits t at) (sym (skip-parts h))
+
   module _ (h key x v : ℕ) (p : Went 0 key (range s start i) x v) where
     pub put-hashed : (x₁ v₁ x₂ v₂ : ℕ) (b : Bool) → i ≤ len → Went x v (b ∷ []) x₁ v₁ → Went x₁ v₁ (range s (start + i) (len - i)) x₂ v₂
         → x₂ % 2 ^ h ≡ hash h key (insert_at i b (range s start len))
@@ -104,3 +115,9 @@ module _ (s : List ℕ) (start len i : ℕ) where
         went-cut h key x₁ v₁ (range s start i ++ range s (start + i + 1) (len - i - 1))
         (went_on 0 key x v x₁ v₁ (range s start i) (range s (start + i + 1) (len - i - 1)) p q)
         ∙ ap (hash h key) (sym (take-parts l))
+
+    pub skip-hashed : (x₁ v₁ : ℕ) → i < len → Went x v (range s (start + (i + 1)) (len - (i + 1))) x₁ v₁ → x₁ % 2 ^ h ≡ hash h key (without i (range s start len))
+    skip-hashed x₁ v₁ l q =
+        went-cut h key x₁ v₁ (range s start i ++ range s (start + (i + 1)) (len - (i + 1)))
+        (went_on 0 key x v x₁ v₁ (range s start i) (range s (start + (i + 1)) (len - (i + 1))) p q)
+        ∙ ap (hash h key) (sym (skip-parts l))

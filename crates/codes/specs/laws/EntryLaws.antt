@@ -55,6 +55,9 @@ module _ (h key : ℕ) where
       let w = and_left (hash_limits h) (key_limits key) e in
       (leb-true 8 h (and_left (leb 8 h) (leb h 32) w), leb-true h 32 (and_right (leb 8 h) (leb h 32) w))
 
+  pub hash_width : hash_settings h key ≡ true → h ≤ 32
+  hash_width e = (hash-settings-width e).1
+
 module _ (bits n a : ℕ) where
   pub repair-range-long : max_bits < n → false ≡ repair_range bits n a
   unfolding repair_range
@@ -92,6 +95,9 @@ module _ (bits n a : ℕ) where
       apart : (eqb (bits + 1) n ≡ true) ⊎ (eqb bits (n + 1) ≡ true) → OneApart bits n
       apart (inl f) = inl (eqb-true (bits + 1) n f)
       apart (inr f) = inr (eqb-true bits (n + 1) f)
+
+  pub repair_few : repair_range bits n a ≡ true → n ≤ max_bits
+  repair_few e = (repair-range-is e).few
 
 -- ---- returns
 module _ (s : List ℕ) (bits : ℕ) where

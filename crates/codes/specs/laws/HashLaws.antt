@@ -8,6 +8,7 @@ use Rattle.std.proofs.lemmas.Nat.{shr_le, xor_shr, xor_lt, xor_mod}
 use Rattle.std.specs.Int.Bits.{bit_xor, differ, xor_step, xor_zero_l, xor_zero_r}
 use Rattle.strings.proofs.laws.BitLaws.{xor-odd}
 use Rattle.codes.specs.Hash.{xor_left, xor_right, xorshift, hash_row, hash_from, hash}
+use Rattle.codes.specs.declared.rows.Hashing.{Hashing}
 use Rattle.codes.specs.code.HashForms.{hash_rows, whole_hash, Went}
 
 -- ---- xor is associative
@@ -148,6 +149,10 @@ went-as x v y w l m e p = subst (λ (u : List Bool). Went x v u y w) e p
 pub went-cut : (h key x v : ℕ) (l : List Bool) → Went 0 key l x v → x % 2 ^ h ≡ hash h key l
 unfolding hash
 went-cut h key x v l p = ap (λ (u : ℕ). u % 2 ^ h) (p.sums ∙ xor_zero_l (whole_hash key l)) ∙ sym (hash-whole h key l)
+
+-- a hash from its start on
+pub went-start : (key x v : ℕ) (l m : List Bool) (from : Hashing) → from ≡ record { sum = 0; row = key } → l ≡ m → Went from.sum from.row l x v → Went 0 key m x v
+went-start key x v l m from e f p = went-as 0 key x v l m f (subst (λ (u : Hashing). Went u.sum u.row l x v) e p)
 
 -- 1 shifted left by h in 64 bits
 pub one_shifted : (h : ℕ) → h ≤ 32 → (1 * 2 ^ h) % 2 ^ 64 ≡ 2 ^ h

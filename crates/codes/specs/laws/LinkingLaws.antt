@@ -1,7 +1,7 @@
 -- Laws of the parted numbers, of the linked low numbers, and of the loops that link, count and list.
 use Rattle.std.specs.Prelude.{◌≡◌, Bool, length, get_or, set, replicate}
 use Rattle.std.proofs.Math.Path.{refl, sym, ap, ap₂}
-use Rattle.std.proofs.Common.{◌∙◌, subst, mod-lt, mod-eq_of_lt, pow-suc, add-suc, suc-add, add-zero, zero-add, mul-add, mul-one, one-mul, zero-mul, mul-le-mul_right, length-append, length-set, get_or-set_same, get_or-set_other, pow-add, pow_mono}
+use Rattle.std.proofs.Common.{◌∙◌, subst, mod-lt, mod-eq_of_lt, pow-suc, add-suc, suc-add, add-zero, zero-add, mul-add, mul-one, zero-mul, length-append, length-set, get_or-set_same, get_or-set_other, pow-add, pow_mono, one-mul, mul-le-mul_right}
 use Rattle.std.proofs.Math.Bool.{true, false, cond}
 use mathlib.Core.List.{List, [], ◌∷◌, ◌++◌, append_assoc, append-nil}
 use Prim.Native.Nat.{ℕ, zero, suc, ◌+◌, ◌-◌, ◌*◌, ◌/◌, ◌%◌, ◌^◌, ◌≤◌, ◌<◌}
@@ -19,7 +19,7 @@ use Rattle.codes.specs.laws.RepairLaws.{lack-is, lack-adds}
 use Rattle.codes.specs.Listing.{bits_of, listing}
 use Rattle.codes.specs.laws.ListingLaws.{length-bits, listing-from, listing-most, kept-most}
 use Rattle.codes.specs.code.Sums.{Residue}
-use Rattle.codes.specs.code.Linking.{kept, list_from, low_digits, high_digits, low_residue, wanted, lows, behind, blocks_from, blocks, first_or, Linked, Counted}
+use Rattle.codes.specs.code.Linking.{kept, list_from, low_digits, high_digits, residue, low_residue, wanted, lows, behind, blocks_from, blocks, first_or, Linked, Counted}
 
 -- ---- a number's digits in two parts
 twice : (h c : ℕ) → h * 2 ^ suc c ≡ 2 * (h * 2 ^ c)
@@ -327,3 +327,14 @@ power-shift d h =
     let p : 2 ^ d ≤ 1048576 = pow_mono {i = d} {j = 20} h in
     let o = one-mul (2 ^ d) in
     ap (λ (x : ℕ). x % 18446744073709551616) o ∙ mod-eq_of_lt (omega arith)
+
+-- the residues modulo the code's m
+pub low-residue-is : (n j : ℕ) → {m r : ℕ} → m ≡ n + 1 → (r ≡ residue (high_digits n + 1) (low_digits n) m j) × (r < m) → (r ≡ low_residue n j) × (r ≤ n)
+low-residue-is n j {m} {r} e f = let b = f.1 in (subst (λ (x : ℕ). r ≡ residue (high_digits n + 1) (low_digits n) x j) e f.0, omega arith)
+
+pub wanted-is : (n a h : ℕ) → {m high r : ℕ} → m ≡ n + 1 → high ≡ residue 1 (high_digits n) m h → Residue m (a + (m - high)) r → (r ≡ wanted n a h) × (r ≤ n)
+unfolding wanted
+wanted-is n a h {m} {high} {r} e f g =
+    let lack = subst (λ (x : ℕ). Residue x (a + (x - high)) r) e g in
+    let b = lack.below in
+    (lack.is ∙ ap (λ (x : ℕ). (a + (n + 1 - x)) % (n + 1)) (subst (λ (x : ℕ). high ≡ residue 1 (high_digits n) x h) e f), omega arith)

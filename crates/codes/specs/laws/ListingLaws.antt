@@ -3,7 +3,7 @@ use Rattle.std.specs.Prelude.{◌≡◌, Bool, eqb}
 use Rattle.std.proofs.Math.Path.{refl, ap}
 use Rattle.std.proofs.Common.{sym, ap₂, ◌∙◌, subst, pow-suc, length-append}
 use Rattle.std.proofs.Math.Bool.{true, false, cond}
-use Rattle.std.proofs.Math.Logic.{⊎_elim, ite}
+use Rattle.std.proofs.Math.Logic.{◌⊎◌, ⊎_elim, ite}
 use mathlib.Core.List.Memᴰ
 use mathlib.Core.List.{List, [], ◌∷◌, ◌++◌, map, filter, Memᴰ}
 use Prim.Native.Nat.{ℕ, zero, suc, ◌+◌, ◌-◌, ◌*◌, ◌/◌, ◌%◌, ◌^◌, ◌≤◌, ◌<◌}
@@ -244,6 +244,9 @@ module _ (n a : ℕ) where
   pub list-range-above : n ≤ 20 → n < a → list_range n a ≡ false
   unfolding list_range
   list-range-above h k = rw (le-leb n 20 h, lt-leb a n k) refl
+
+  pub list-range-out : (20 < n) ⊎ ((n ≤ 20) × (n < a)) → list_range n a ≡ false
+  list-range-out = ⊎_elim list-range-long (λ h. list-range-above h.0 h.1)
 
   pub list-range-in : n ≤ 20 → a ≤ n → list_range n a ≡ true
   unfolding list_range

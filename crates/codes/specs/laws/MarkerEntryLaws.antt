@@ -1,5 +1,5 @@
 -- Laws of the markers' tests, of packed words and messages, and of the calls' returns.
-use Rattle.std.specs.Prelude.{◌≡◌, Bool, true, false, ◌&&◌, cond, ℕ, ◌+◌, ◌-◌, ◌%◌, ◌≤◌, ◌<◌, drop, eqb}
+use Rattle.std.specs.Prelude.{Ok, Err, ⊤, ◌≡◌, Bool, true, false, ◌&&◌, cond, ℕ, ◌+◌, ◌-◌, ◌%◌, ◌≤◌, ◌<◌, drop, eqb}
 use Rattle.std.proofs.Math.Path.{refl, sym, ap}
 use Rattle.std.proofs.Common.{◌∙◌, subst, inl, inr}
 use mathlib.Core.List.{List, ◌++◌, append-nil}
@@ -22,9 +22,7 @@ use Rattle.codes.specs.Syndrome.{weighted_sum, syndrome}
 use Rattle.codes.specs.Repair.{OneApart, repair_to}
 use Rattle.codes.specs.Entries.{repair_left, said_repair}
 use Rattle.codes.specs.code.Sums.{Residue}
-use Rattle.codes.specs.declared.entries.RepairAnswer.TheVariants.{Refused as RepairRefused}
-use Rattle.codes.specs.declared.markers.BuildAnswer.TheVariants.{Built, Refused}
-use Rattle.codes.specs.Markers.{max_marker_bits, message_bits, merged, check_number, message, message_sum, wanting, marker, near_word, built_message, read_marker, marker_range, received_range, build_call, read_call, build_outcome, read_outcome, said_build}
+use Rattle.codes.specs.Markers.{max_marker_bits, message_bits, merged, message, message_sum, wanting, marker, near_word, built_message, read_marker, marker_range, received_range, build_call, read_call, build_outcome, read_outcome, said_build, check_number}
 use Rattle.codes.specs.laws.SyndromeLaws.{syndrome-most}
 use Rattle.codes.specs.laws.MarkerLaws.{length_merged, message-merged, message-bits}
 
@@ -135,13 +133,13 @@ module _ (n a : ℕ) (m : List Bool) (k : length m ≡ message_bits n) (o o₁ :
   spread-message : message 1 (range o₁ 0 n) ≡ m
   spread-message = ap (message 1) spread-range ∙ message-merged n 1 0 m (k ∙ message-bits n)
 
-  pub marker-packed : (x v : ℕ) (o₂ : List ℕ) → x ≡ syndrome (range o₁ 0 n) → Residue (n + 1) (a + (n + 1 - x)) v
+  pub marker-packed : (x v : ℕ) (o₂ : List ℕ) → x ≡ syndrome (range o₁ 0 n) → {m' : ℕ} → m' ≡ n + 1 → Residue m' (a + (m' - x)) v
       → o₂ ≡ write_bits o₁ 0 (merged n 1 v (message 1 (range o₁ 0 n))) → o₂ ≡ at_front (pack (marker n a m)) o
-  marker-packed x v o₂ f r g =
+  marker-packed x v o₂ f same r g =
       g ∙ ap (λ (l : List Bool). write_bits o₁ 0 (merged n 1 v l)) spread-message
       ∙ ap (λ (t : List ℕ). write_bits t 0 (merged n 1 v m)) e
       ∙ front-over (merged n 1 0 m) (merged n 1 v m) o (length_merged n 1 v m ∙ sym (length_merged n 1 0 m))
-      ∙ ap (λ (w : List Bool). at_front (pack w) o) (number-seen x v f r)
+      ∙ ap (λ (w : List Bool). at_front (pack w) o) (number-seen x v f (subst (λ (y : ℕ). Residue y (a + (y - x)) v) same r))
 
 pub range-syndrome-most : (s : List ℕ) (start n x : ℕ) → x ≡ syndrome (range s start n) → x ≤ n
 range-syndrome-most s start n x e = let h = syndrome-most (range s start n) in let k = range_length s start n in omega arith
@@ -179,26 +177,26 @@ module _ (n a : ℕ) (l : List Bool) (len : ℕ) (k : length l ≡ len) where
 
 -- ---- returns
 module _ (s : List ℕ) (bits n a : ℕ) (out : List ℕ) where
-  pub build-bad-string : string_rule s bits ≡ false → said_build (Refused BadString) out ≡ build_outcome s bits n a out
+  pub build-bad-string : string_rule s bits ≡ false → said_build (Err BadString) out ≡ build_outcome s bits n a out
   unfolding build_call
   build-bad-string e = rw e refl
 
-  pub read-bad-string : string_rule s bits ≡ false → said_repair (RepairRefused BadString) out ≡ read_outcome s bits n a out
+  pub read-bad-string : string_rule s bits ≡ false → said_repair (Err BadString) out ≡ read_outcome s bits n a out
   unfolding read_call
   read-bad-string e = rw e refl
 
   module _ (e : string_rule s bits ≡ true) where
-    pub build-out-of-range : marker_range n a ≡ false → said_build (Refused OutOfRange) out ≡ build_outcome s bits n a out
+    pub build-out-of-range : marker_range n a ≡ false → said_build (Err OutOfRange) out ≡ build_outcome s bits n a out
     unfolding build_call
     build-out-of-range f = rw (e, f) refl
 
     module _ (f : marker_range n a ≡ true) (count : ℕ) (q : count ≡ message_bits n) where
-      pub build-message-length : (bits ≡ count → ⊥) → said_build (Refused MessageLength) out ≡ build_outcome s bits n a out
+      pub build-message-length : (bits ≡ count → ⊥) → said_build (Err MessageLength) out ≡ build_outcome s bits n a out
       unfolding build_call
       build-message-length g = rw (e, f, ne_eqb bits (message_bits n) (λ z. g (z ∙ sym q))) refl
 
       module _ (g : bits ≡ count) where
-        pub build-too-short : length out < bytes_for n → said_build (Refused BufferTooShort) out ≡ build_outcome s bits n a out
+        pub build-too-short : length out < bytes_for n → said_build (Err BufferTooShort) out ≡ build_outcome s bits n a out
         unfolding build_call
         build-too-short h = rw (e, f, eq-eqb bits (message_bits n) (g ∙ q), lt-leb (bytes_for n) (length out) h) refl
 
@@ -207,16 +205,16 @@ module _ (s : List ℕ) (bits n a : ℕ) (out : List ℕ) where
         build-word h = rw (e, f, eq-eqb bits (message_bits n) (g ∙ q), le-leb (bytes_for n) (length out) h) refl
 
         pub build-done : bytes_for n ≤ length out → (out' : List ℕ) → out' ≡ at_front (pack (marker n a (range s 0 (message_bits n)))) out
-            → said_build Built out' ≡ build_outcome s bits n a out
-        build-done h out' p =
-            ap (said_build Built) (p ∙ ap (λ (x : ℕ). at_front (pack (marker n a (range s 0 x))) out) (sym (g ∙ q))) ∙ build-word h
+            → (done : ⊤) → said_build (Ok done) out' ≡ build_outcome s bits n a out
+        build-done h out' p done =
+            ap (said_build (Ok done)) (p ∙ ap (λ (x : ℕ). at_front (pack (marker n a (range s 0 x))) out) (sym (g ∙ q))) ∙ build-word h
 
-    pub read-out-of-range : received_range bits n a ≡ false → said_repair (RepairRefused OutOfRange) out ≡ read_outcome s bits n a out
+    pub read-out-of-range : received_range bits n a ≡ false → said_repair (Err OutOfRange) out ≡ read_outcome s bits n a out
     unfolding read_call
     read-out-of-range f = rw (e, f) refl
 
     module _ (f : received_range bits n a ≡ true) (count : ℕ) (q : count ≡ message_bits n) where
-      pub read-too-short : length out < bytes_for count → said_repair (RepairRefused BufferTooShort) out ≡ read_outcome s bits n a out
+      pub read-too-short : length out < bytes_for count → said_repair (Err BufferTooShort) out ≡ read_outcome s bits n a out
       unfolding read_call
       read-too-short h = rw (e, f, lt-leb (bytes_for (message_bits n)) (length out) (subst (λ (x : ℕ). length out < bytes_for x) q h)) refl
 

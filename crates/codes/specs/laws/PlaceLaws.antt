@@ -94,10 +94,11 @@ module _ (s : List ℕ) (start len i v : ℕ) (h : i + 8 ≤ len) (e : Eight s (
       let q : zeros (byte_bits v) ≡ n = omega arith in
       ap (one_place z) rest-eight ∙ one-place-pass z (byte_bits v) (rest s start len (i + 8)) (omega arith) ∙ ap (λ (x : ℕ). 8 + one_place (z - x) (rest s start len (i + 8))) q
 
--- ---- the bit and the place, from the length n, the sum x modulo n + 2, the ones w and the lack d
-pub lack-residue : (a : ℕ) (l : List Bool) (n x d : ℕ) → length l ≡ n → Residue (n + 2) (weighted_sum 1 l) x → Residue (n + 2) (a + (n + 2 - x)) d → d ≡ lack a l
+-- ---- the bit and the place, from the length n, the modulus m, the sum x modulo m, the ones w and the lack d
+pub lack-residue : (a : ℕ) (l : List Bool) (n m x d : ℕ) → length l ≡ n → m ≡ n + 2 → Residue m (weighted_sum 1 l) x → Residue m (a + (m - x)) d → d ≡ lack a l
 unfolding lack
-lack-residue a l n x d e p q = q.is ∙ ap (λ (z : ℕ). (a + (n + 2 - z)) % (n + 2)) p.is ∙ ap (λ (k : ℕ). (a + (k + 2 - weighted_sum 1 l % (k + 2))) % (k + 2)) (sym e)
+lack-residue a l n m x d e f p q =
+    q.is ∙ ap (λ (z : ℕ). (a + (m - z)) % m) p.is ∙ ap (λ (k : ℕ). (a + (k - weighted_sum 1 l % k)) % k) (f ∙ ap (λ (k : ℕ). k + 2) (sym e))
 
 module _ (a : ℕ) (l : List Bool) (w d p : ℕ) (e : w ≡ ones l) (f : d ≡ lack a l) where
   pub put-zero : d ≤ w → p ≡ zero_place d l → (p ≡ put_place a l) × (false ≡ put_bit a l)
@@ -119,9 +120,9 @@ without-syndrome i l n x d r e h f g k =
     (omega arith, ap₂ (λ (p q : ℕ). p % q) y (sym m))
 
 -- ---- what a fall of the sum leaves
--- the fall from the sum x modulo n
-pub zero-fall-is : (n x a y f : ℕ) → Residue n x y → Residue n (y + (n - a)) f → f ≡ zero_fall n x a
-zero-fall-is n x a y f p q = q.is ∙ ap (λ (z : ℕ). (z + (n - a)) % n) p.is
+-- the fall from the sum x modulo m, which is n
+pub zero-fall-is : (n m x a y f : ℕ) → m ≡ n → Residue m x y → Residue m (y + (m - a)) f → f ≡ zero_fall n x a
+zero-fall-is n m x a y f e p q = q.is ∙ ap (λ (z : ℕ). (z + (m - a)) % m) p.is ∙ ap (λ (k : ℕ). zero_fall k x a) e
 
 eqb-iff : (a b c d : ℕ) → (a ≡ b → c ≡ d) → (c ≡ d → a ≡ b) → eqb a b ≡ eqb c d
 eqb-iff a b c d f g = go (ℕ_discrete a b)

@@ -4,7 +4,7 @@ use Rattle.std.proofs.Common.{sym, ap, ap₂, ◌∙◌, subst, mod-eq_of_lt, ad
 use Rattle.std.proofs.Math.Nat.{mod-add-mod, add-mod-mod, add-mod_right}
 use Rattle.std.proofs.Math.Decide.{ℕ_discrete}
 use Rattle.std.proofs.lemmas.List.{get_or-replicate}
-use Rattle.std.specs.Int.Bits.{bit_and}
+use Rattle.std.specs.Int.Count.{ones as count_ones}
 use mir.Val.{bool_byte}
 use Rattle.strings.specs.Bits.{bit_at, range, byte_bits, Eight}
 use Rattle.strings.specs.laws.Tests.{true-false}
@@ -14,6 +14,7 @@ use Rattle.codes.specs.Syndrome.{weighted_sum, syndrome}
 use Rattle.codes.specs.laws.SyndromeLaws.{weighted-sum-append, ones-append, ones-zeros, syndrome-is}
 use Rattle.codes.specs.code.Place.{ones}
 use Rattle.codes.specs.code.Sums.{Residue, EachLess, total, lane_sum, Lanes}
+use Rattle.std.specs.Int.Bits.{bit_and}
 
 -- ---- one sum
 pub residue-less : (m x : ℕ) → x < m → Residue m x x
@@ -155,8 +156,8 @@ lanes-joined m s a n ts r p q =
     record { below = q.below; is = q.is ∙ ap (λ (x : ℕ). x % m) (sym (total-all ts 8 (omega arith))) ∙ total-lanes m s a n ts p 8 (omega arith) ∙ ap (λ (x : ℕ). x % m) (lanes-sum-all s a n) }
 
 -- ---- the syndrome
-pub syndrome-residue : (l : List Bool) (n r : ℕ) → length l ≡ n → Residue (n + 1) (weighted_sum 1 l) r → r ≡ syndrome l
-syndrome-residue l n r e p = p.is ∙ syndrome-is l n (weighted_sum 1 l) e refl
+pub syndrome-residue : (l : List Bool) (n m r : ℕ) → length l ≡ n → m ≡ n + 1 → Residue m (weighted_sum 1 l) r → r ≡ syndrome l
+syndrome-residue l n m r e f p = p.is ∙ ap (λ (k : ℕ). weighted_sum 1 l % k) f ∙ syndrome-is l n (weighted_sum 1 l) e refl
 
 -- ---- the count
 pub ones-cons : (b : Bool) (l : List Bool) → ones (b ∷ l) ≡ bool_byte b + ones l
@@ -172,7 +173,7 @@ ones-eight s a i v e =
     let j : 8 * (i + 1) ≡ 8 * i + 8 = omega arith in
     sym (ap (λ (n : ℕ). ones (range s a n)) j ∙ ap ones (range-add s a (8 * i) 8) ∙ ones-append (range s a (8 * i)) (range s (a + 8 * i) 8) ∙ ap (λ (l : List Bool). ones (range s a (8 * i)) + ones l) e.bits)
 
--- the ones of a byte as the code adds them: of each two of its bits, of each four, of all; true of all 256 bytes by a test of each
+-- the ones of a byte, added: of each two of its bits, of each four, of all; true of all 256 bytes by a test of each
 abbrev twos_of : ℕ → ℕ
 twos_of v = v - bit_and (v / 2) 85
 
@@ -197,6 +198,10 @@ every-at test (suc n) e v h = go (test n) refl e (ℕ_discrete v n) (every-at te
 
 pub ones-added : (v : ℕ) → v < 256 → added v ≡ ones (byte_bits v)
 ones-added v h = eqb-true (added v) (ones (byte_bits v)) (every-at (λ (x : ℕ). eqb (added x) (ones (byte_bits x))) 256 refl v h)
+
+pub ones-counted : (v : ℕ) → v < 256 → count_ones v ≡ ones (byte_bits v)
+unfolding count_ones
+ones-counted v h = eqb-true (count_ones v) (ones (byte_bits v)) (every-at (λ (x : ℕ). eqb (count_ones x) (ones (byte_bits x))) 256 refl v h)
 
 pub ones-few : (s : List ℕ) (a n : ℕ) → ones (range s a n) ≤ n
 ones-few s a n = let e = ones-zeros (range s a n) in let l = range_length s a n in omega arith

@@ -1,5 +1,5 @@
 -- Laws of the repaired string as the code weaves it bit by bit: its columns are the edited columns, and outside of its middle its bits are those of the copy.
-use Rattle.std.specs.Prelude.{◌≡◌, Bool, true, false, cond, length, take, drop, get_or, ltb}
+use Rattle.std.specs.Prelude.{◌≡◌, min, max, Bool, true, false, cond, length, take, drop, get_or, ltb}
 use Rattle.std.proofs.Math.Path.{refl, sym, ap, ap₂}
 use Rattle.std.proofs.Common.{◌∙◌, subst, ⊎_elim, suc-mul, add-zero, mul-le-mul_right, mod-lt, mod-eq_of_lt, get_or-drop, get_or-take, get_or-append-add, length-take-le, ext_get_or, le-leb, lt-ltb, le-ltb}
 use mathlib.Core.List.{List, [], ◌∷◌, ◌++◌}
@@ -337,6 +337,12 @@ module _ (s : List ℕ) (start len n B : ℕ) (ps : List ℕ) (xs : List Bool) (
         ∙ sym (write-append t to before (middle ++ behind)) ∙ ap (write_bits t to) (sym in_parts)
 
 -- ---- the places from the least to the greatest, and the middle around them
+pub min-smaller : (x y r : ℕ) → r ≡ min x y → Smaller x y r
+min-smaller x y r e = grind (arith)
+
+pub max-larger : (x y r : ℕ) → r ≡ max x y → Larger x y r
+max-larger x y r e = grind (arith)
+
 pub spans-first : (ps : List ℕ) → Spans 1 (get_or ps 0 0) (get_or ps 0 0) ps
 spans-first ps j h = let e : j ≡ 0 = omega arith in subst (λ (x : ℕ). (get_or ps 0 0 ≤ get_or ps x 0) × (get_or ps x 0 ≤ get_or ps 0 0)) (sym e) (omega arith, omega arith)
 

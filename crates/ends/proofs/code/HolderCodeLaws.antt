@@ -1,13 +1,12 @@
 -- Laws for the proofs of src/answering.rt.
-use Rattle.std.specs.Prelude.{◌≡◌, Bool, true, false, cond, ◌&&◌, List, [], ◌∷◌, ◌++◌, ℕ, ◌+◌, ◌≤◌, ◌<◌, length, set, take, leb, ltb, eqb}
+use Rattle.std.specs.Prelude.{◌≡◌, Result as CodeResult, Ok, Err, Bool, true, false, cond, ◌&&◌, List, [], ◌∷◌, ◌++◌, ℕ, ◌+◌, ◌≤◌, ◌<◌, length, set, take, leb, ltb, eqb}
 use Rattle.std.proofs.Math.Path.{refl}
 use Rattle.std.proofs.Common.{sym, ap, ap₂, ◌∙◌, subst, zero-add, add-one, arith, take_all, take-suc, take-suc-set, le-leb, leb-true, ltb-true, eqb-true}
 use Rattle.std.proofs.Math.Decide.{dec_lt}
 use Rattle.std.proofs.lemmas.Bool.{lt-leb}
-use Rattle.messages.specs.declared.WriteResult.TheVariants.{Written, TooShort}
 use Rattle.strings.specs.Refusals.{refusal_number}
-use Rattle.strings.specs.Results.{Result, refusal, value}
-use Rattle.strings.specs.Bits.{range, max_bits}
+use Rattle.strings.specs.Results.{Result, refusal, value, said}
+use Rattle.strings.specs.Bits.{range, max_bits, Part}
 use Rattle.strings.specs.StringRule.{string_rule}
 use Rattle.strings.proofs.laws.RangeLaws.{range_length, range-part}
 use Rattle.strings.proofs.laws.RuleLaws.{rule-is}
@@ -16,19 +15,13 @@ use Rattle.strings.specs.declared.Refusal.{Refusal}
 use Rattle.strings.specs.declared.Refusal.TheVariants.{BadString, OutOfTurn}
 use Rattle.codes.specs.Syndrome.{syndrome}
 use Rattle.codes.specs.laws.SyndromeLaws.{syndrome-most}
-use Rattle.codes.specs.Hash.{hash}
 use Rattle.messages.specs.declared.Kind.{Kind}
-use Rattle.messages.specs.declared.KindRead.{KindRead}
-use Rattle.messages.specs.declared.KindRead.TheVariants.{Known, NoKind}
 use Rattle.messages.specs.declared.Question.{Question}
 use Rattle.messages.specs.declared.Question.TheVariants.{AskOpen, AskHash, AskSyndrome, AskBits, AskBurst}
-use Rattle.messages.specs.declared.QuestionRead.{QuestionRead}
-use Rattle.messages.specs.declared.QuestionRead.TheVariants.{Asked, NoQuestion}
-use Rattle.messages.specs.declared.WriteResult.{WriteResult}
-use Rattle.messages.specs.Kinds.{kind_at, said_kind}
-use Rattle.messages.specs.Questions.{fields_at, said_question}
+use Rattle.messages.specs.Kinds.{kind_at}
+use Rattle.messages.specs.Questions.{fields_at}
 use Rattle.messages.specs.laws.QuestionLaws.{Within, RangeWithin, fields_within}
-use Rattle.messages.specs.Answers.{Answer, size_answer, hash_answer, syndrome_answer, bits_answer, answer_bytes, burst_answer}
+use Rattle.messages.specs.Answers.{Answer, size_answer, bits_answer, answer_bytes}
 use Rattle.messages.specs.Writing.{put_front, Wrote, said_write}
 use Rattle.messages.specs.laws.WritingLaws.{put-fits, put-short}
 use Rattle.ends.specs.declared.Holder.{Holder}
@@ -38,7 +31,7 @@ use Rattle.ends.specs.Soundness.{holder_sound, most_answers}
 use Rattle.ends.specs.HolderCall.{same_bit_count, in_turn, sends, answers_to, of_kind, holder_call, Reply}
 use Rattle.ends.specs.declared.answering.HolderOut.{HolderOut}
 use Rattle.ends.specs.HolderOutcome.{HolderSaid, said_holder, leaves_holder}
-use Rattle.ends.specs.code.HolderParts.{refused, written, opened_with, one_more, Answers, Able, Ready}
+use Rattle.ends.specs.code.HolderParts.{refused, written, opened_with, one_more, hash_reply, syndrome_reply, burst_reply, reply_outcome, Answering, Answers, Able, Ready}
 use Rattle.codes.specs.Columns.{column, syndromes}
 use Rattle.codes.specs.laws.ColumnLaws.{column-short, syndromes-at, syndromes-length}
 
@@ -54,9 +47,9 @@ state_for st next (value size) = next
 abbrev wrote_said : (st next : Holder) → Wrote → HolderSaid
 wrote_said st next w = record { answer = w.answer; state = state_for st next w.answer; reply = w.buffer }
 
-said-wrote : (st next : Holder) (buf : List ℕ) (w : WriteResult) → said_holder (written st next w) buf ≡ wrote_said st next (said_write w buf)
-said-wrote st next buf (Written size) = refl
-said-wrote st next buf TooShort = refl
+said-wrote : (st next : Holder) (buf : List ℕ) (w : CodeResult ℕ Refusal) → said_holder (written st next w) buf ≡ wrote_said st next (said_write w buf)
+said-wrote st next buf (Ok size) = refl
+said-wrote st next buf (Err e) = refl
 
 put-sends : (st next : Holder) (m buf : List ℕ) → Dec (length buf < length m) → wrote_said st next (put_front m buf) ≡ leaves_holder st buf (sends (length buf) next m)
 unfolding sends
@@ -65,7 +58,7 @@ put-sends st next m buf (no h) =
     let l : length m ≤ length buf = omega arith in
     ap (wrote_said st next) (put-fits m buf l) ∙ rw (le-leb (length m) (length buf) l) refl
 
-pub written-said : (st next next' : Holder) (m m' buf after : List ℕ) (w : WriteResult) {r : HolderOut} → r ≡ written st next w → said_write w after ≡ put_front m buf → next ≡ next' → m ≡ m' → said_holder r after ≡ leaves_holder st buf (sends (length buf) next' m')
+pub written-said : (st next next' : Holder) (m m' buf after : List ℕ) (w : CodeResult ℕ Refusal) {r : HolderOut} → r ≡ written st next w → said_write w after ≡ put_front m buf → next ≡ next' → m ≡ m' → said_holder r after ≡ leaves_holder st buf (sends (length buf) next' m')
 written-said st next next' m m' buf after w e f g k =
     ap (λ (o : HolderOut). said_holder o after) e
     ∙ said-wrote st next after w
@@ -134,6 +127,17 @@ module _ (st : Holder) (x : List ℕ) (n : ℕ) where
       let e = w.ends in
       record { part = record { there = omega arith; few = omega arith }; width = sound-width st a.sound; left = a.left }
 
+  pub able-answering : Able st x n → Answering st
+  able-answering a = record { width = sound-width st a.sound; left = a.left }
+
+  pub asked-part : {start len : ℕ} → Able st x n → RangeWithin n start len → Part x start len
+  asked-part a w =
+      let r = rule-is x n a.string in
+      let f = r.few in
+      let b = r.bytes in
+      let e = w.ends in
+      record { there = omega arith; few = omega arith }
+
   module _ (reply : List ℕ) {q : Question} {s : HolderSaid} where
     pub open-asked : {h key : ℕ} → q ≡ AskOpen h key
         → s ≡ leaves_holder st reply (sends (length reply) (opened_with n h key) (answer_bytes (size_answer n)))
@@ -142,37 +146,33 @@ module _ (st : Holder) (x : List ℕ) (n : ℕ) where
         f ∙ ap (λ (k : ℕ). leaves_holder st reply (sends (length reply) (opened_with n h key) (answer_bytes (size_answer k)))) (sym (range_length x 0 n))
         ∙ ap (λ (p : Question). leaves_holder st reply (answers_to st x n (length reply) p)) (sym e)
 
-    -- the part of X's bits that a question names is a range of X's bytes
-    range-asked : (answered : List Bool → Answer) (start len : ℕ) {q' : Question} → RangeWithin n start len → q ≡ q'
+    -- the part of X's bits that a question names is the range of X's bytes that is answered for
+    range-asked : (answered : List Bool → Answer) (start len : ℕ) {l : List Bool} {q' : Question} → RangeWithin n start len → q ≡ q' → l ≡ range x start len
         → answers_to st x n (length reply) q' ≡ sends (length reply) (one_more st) (answer_bytes (answered (part (range x 0 n) start len)))
-        → s ≡ leaves_holder st reply (sends (length reply) (one_more st) (answer_bytes (answered (range x start len))))
+        → s ≡ leaves_holder st reply (sends (length reply) (one_more st) (answer_bytes (answered l)))
         → s ≡ leaves_holder st reply (answers_to st x n (length reply) q)
-    range-asked answered start len w e g f =
-        let there : range x start len ≡ part (range x 0 n) start len = sym (range-part x 0 n start len w.ends ∙ ap (λ (k : ℕ). range x k len) (zero-add start)) in
+    range-asked answered start len {l} w e p g f =
+        let there : l ≡ part (range x 0 n) start len = p ∙ sym (range-part x 0 n start len w.ends ∙ ap (λ (k : ℕ). range x k len) (zero-add start)) in
         f ∙ ap (λ (l : List Bool). leaves_holder st reply (sends (length reply) (one_more st) (answer_bytes (answered l)))) there
         ∙ ap (leaves_holder st reply) (sym g)
         ∙ ap (λ (p : Question). leaves_holder st reply (answers_to st x n (length reply) p)) (sym e)
 
-    module _ (g : Ready st x n q) {start len : ℕ} where
-      pub hash-asked : q ≡ AskHash start len
-          → s ≡ leaves_holder st reply (sends (length reply) (one_more st) (answer_bytes (hash_answer (hash st.h st.key (range x start len)))))
+    module _ (g : Ready st x n q) {start len : ℕ} {l : List Bool} where
+      pub hash-asked : q ≡ AskHash start len → l ≡ range x start len → s ≡ reply_outcome st (one_more st) (hash_reply st l) reply
           → s ≡ leaves_holder st reply (answers_to st x n (length reply) q)
-      hash-asked e f = range-asked (λ l. hash_answer (hash st.h st.key l)) start len (ready-within g e) e refl f
+      hash-asked e p f = range-asked (hash_reply st) start len (ready-within g e) e p refl f
 
-      pub syndrome-asked : q ≡ AskSyndrome start len
-          → s ≡ leaves_holder st reply (sends (length reply) (one_more st) (answer_bytes (syndrome_answer (syndrome (range x start len)) (hash st.h st.key (range x start len)))))
+      pub syndrome-asked : q ≡ AskSyndrome start len → l ≡ range x start len → s ≡ reply_outcome st (one_more st) (syndrome_reply st l) reply
           → s ≡ leaves_holder st reply (answers_to st x n (length reply) q)
-      syndrome-asked e f = range-asked (λ l. syndrome_answer (syndrome l) (hash st.h st.key l)) start len (ready-within g e) e refl f
+      syndrome-asked e p f = range-asked (syndrome_reply st) start len (ready-within g e) e p refl f
 
-      pub burst-asked : {b : ℕ} → q ≡ AskBurst start len b
-          → s ≡ leaves_holder st reply (sends (length reply) (one_more st) (answer_bytes (burst_answer (syndromes b (range x start len)) (hash st.h st.key (range x start len)))))
+      pub burst-asked : {b : ℕ} → q ≡ AskBurst start len b → l ≡ range x start len → s ≡ reply_outcome st (one_more st) (burst_reply st b l) reply
           → s ≡ leaves_holder st reply (answers_to st x n (length reply) q)
-      burst-asked {b} e f = range-asked (λ l. burst_answer (syndromes b l) (hash st.h st.key l)) start len (ready-within g e).range e refl f
+      burst-asked {b} e p f = range-asked (burst_reply st b) start len (ready-within g e).range e p refl f
 
-      pub bits-asked : q ≡ AskBits start len
-          → s ≡ leaves_holder st reply (sends (length reply) (one_more st) (answer_bytes (bits_answer (range x start len))))
+      pub bits-asked : q ≡ AskBits start len → l ≡ range x start len → s ≡ reply_outcome st (one_more st) (bits_answer l) reply
           → s ≡ leaves_holder st reply (answers_to st x n (length reply) q)
-      bits-asked e f = range-asked bits_answer start len (ready-within g e) e refl f
+      bits-asked e p f = range-asked bits_answer start len (ready-within g e) e p refl f
 
 -- ---- the call, test by test
 module _ (st : Holder) (x : List ℕ) (bits : ℕ) where
@@ -193,13 +193,13 @@ module _ (st : Holder) (x : List ℕ) (bits : ℕ) where
     call-out-of-turn a b = rw (a, b) refl
 
     -- the kind was not read, or was
-    pub call-no-kind : {k : KindRead} {e : Refusal} → string_rule x bits && same_bit_count st bits ≡ true → holder_sound st && ltb st.answers most_answers ≡ true
-        → said_kind k ≡ kind_at msg → k ≡ NoKind e → holder_call st x bits msg capacity ≡ refusal (refusal_number e)
+    pub call-no-kind : {k : CodeResult (Kind × ℕ) Refusal} {e : Refusal} → string_rule x bits && same_bit_count st bits ≡ true → holder_sound st && ltb st.answers most_answers ≡ true
+        → said k ≡ kind_at msg → k ≡ Err e → holder_call st x bits msg capacity ≡ refusal (refusal_number e)
     unfolding holder_call
     call-no-kind a b e f = rw (a, b, ← e, f) refl
 
-    pub call-kind : {k : KindRead} {kind : Kind} {at : ℕ} → string_rule x bits && same_bit_count st bits ≡ true → holder_sound st && ltb st.answers most_answers ≡ true
-        → said_kind k ≡ kind_at msg → k ≡ Known kind at → holder_call st x bits msg capacity ≡ of_kind st x bits msg capacity kind at
+    pub call-kind : {k : CodeResult (Kind × ℕ) Refusal} {kind : Kind} {at : ℕ} → string_rule x bits && same_bit_count st bits ≡ true → holder_sound st && ltb st.answers most_answers ≡ true
+        → said k ≡ kind_at msg → k ≡ Ok (kind, at) → holder_call st x bits msg capacity ≡ of_kind st x bits msg capacity kind at
     unfolding holder_call
     call-kind a b e f = rw (a, b, ← e, f) refl
 
@@ -208,15 +208,15 @@ module _ (st : Holder) (x : List ℕ) (bits : ℕ) where
       kind-out-of-turn t = rw t refl
 
       -- so were the fields
-      pub kind-no-fields : {q : QuestionRead} {e : Refusal} → in_turn st.opened k ≡ true → said_question q ≡ fields_at k msg at bits → q ≡ NoQuestion e → of_kind st x bits msg capacity k at ≡ refusal (refusal_number e)
+      pub kind-no-fields : {q : CodeResult Question Refusal} {e : Refusal} → in_turn st.opened k ≡ true → said q ≡ fields_at k msg at bits → q ≡ Err e → of_kind st x bits msg capacity k at ≡ refusal (refusal_number e)
       kind-no-fields t e f = rw (t, ← e, f) refl
 
-      pub kind-fields : {q : QuestionRead} {q' : Question} → in_turn st.opened k ≡ true → said_question q ≡ fields_at k msg at bits → q ≡ Asked q' → of_kind st x bits msg capacity k at ≡ answers_to st x bits capacity q'
+      pub kind-fields : {q : CodeResult Question Refusal} {q' : Question} → in_turn st.opened k ≡ true → said q ≡ fields_at k msg at bits → q ≡ Ok q' → of_kind st x bits msg capacity k at ≡ answers_to st x bits capacity q'
       kind-fields t e f = rw (t, ← e, f) refl
 
-  module _ (msg : List ℕ) (k : Kind) (at : ℕ) {p : QuestionRead} {q : Question} where
-    pub able-ready : Able st x bits → said_question p ≡ fields_at k msg at bits → p ≡ Asked q → Ready st x bits q
-    able-ready a e f = record { able = a; within = (fields_within k msg at bits q (sym e ∙ ap said_question f)).1 }
+  module _ (msg : List ℕ) (k : Kind) (at : ℕ) {p : CodeResult Question Refusal} {q : Question} where
+    pub able-ready : Able st x bits → said p ≡ fields_at k msg at bits → p ≡ Ok q → Ready st x bits q
+    able-ready a e f = record { able = a; within = (fields_within k msg at bits q (sym e ∙ ap said f)).1 }
 
 -- what is said of a call is what is said of the part that it comes to
 pub said-by : {s : HolderSaid} (st : Holder) (reply : List ℕ) {whole heard : Result Reply} → s ≡ leaves_holder st reply heard → whole ≡ heard → s ≡ leaves_holder st reply whole

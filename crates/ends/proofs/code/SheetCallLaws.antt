@@ -1,8 +1,11 @@
 -- Laws of the sheet of rows: that a call's change lies in it, what rows written one after the other make, and the call.
-use Rattle.std.specs.Prelude.{◌≡◌, refl, List, [], ◌∷◌, ℕ, suc, ◌+◌, ◌-◌, ◌≤◌, ◌<◌, length, replicate}
-use Rattle.std.proofs.Common.{ap, ◌∙◌, add-one, arith}
-use Rattle.std.proofs.lemmas.List.Edits.{sets}
+use Rattle.std.specs.Prelude.{◌≡◌, refl, List, [], ◌∷◌, ◌++◌, ℕ, suc, ◌+◌, ◌-◌, ◌≤◌, ◌<◌, length, replicate, take, drop}
+use Rattle.std.proofs.Common.{ap, sym, ◌∙◌, add-one, arith, take_all}
+use Rattle.std.proofs.lemmas.List.{length-replicate}
+use Rattle.std.proofs.lemmas.List.Edits.{sets, sets-eq}
 use Rattle.std.proofs.Math.Seq.{length-sets}
+use Rattle.std.proofs.lemmas.Slice.{put_mid-paste}
+use borrow.Rule.Slice.PartMut.{put_mid}
 use Rattle.strings.specs.Results.{Result, refusal, value}
 use Rattle.ends.specs.declared.Rebuilder.{Rebuilder}
 use Rattle.ends.specs.declared.Row.{Row}
@@ -32,6 +35,15 @@ module _ (st : Rebuilder) (y : List ℕ) (bits : ℕ) (msg : List ℕ) (capaciti
   -- and done to the sheet, it leaves what the definition says
   pub left-on-sheet : (sh sh' : List Row) → sh' ≡ sheet_after sh out.sheet → said_on_sheet out sh' string' question' ≡ leaves_on_sheet st sh string question (rebuilder_call st y bits msg capacities)
   left-on-sheet sh sh' e = rw (said, e, said-left st string question string' question' out (rebuilder_call st y bits msg capacities) sh said) refl
+
+-- ---- rows cleared
+pub rows-cleared : (s t : List Row) (from to : ℕ) → from < to → to ≤ length s → t ≡ replicate (to - from) no_row
+    → put_mid from (to - from) s t ≡ sets s from (replicate (to - from) no_row)
+rows-cleared s t from to h k e =
+    let n = ap length e ∙ length-replicate (to - from) no_row in
+    put_mid-paste from (to - from) s t t (length t) refl n refl
+    ∙ ap (λ (l : List Row). take from s ++ l ++ drop (from + length t) s) (take_all (length t) t (omega arith))
+    ∙ sym (sets-eq t s from (omega arith)) ∙ ap (sets s from) e
 
 -- ---- rows cleared one after the other
 -- the rows s, of which those below i are cleared, come from s₀

@@ -1,5 +1,5 @@
 -- What the parts of the holder's call give and require.
-use Rattle.std.specs.Prelude.{◌≡◌, Bool, true, List, ℕ, ◌+◌, ◌≤◌, ◌<◌, length}
+use Rattle.std.specs.Prelude.{◌≡◌, Result as CodeResult, Ok, Err, Bool, true, List, ℕ, ◌+◌, ◌≤◌, ◌<◌, length}
 use Rattle.codes.specs.Hash.{hash}
 use Rattle.codes.specs.Syndrome.{syndrome}
 use Rattle.messages.specs.Answers.{Answer, hash_answer, syndrome_answer, burst_answer, answer_bytes}
@@ -7,27 +7,23 @@ use Rattle.codes.specs.Columns.{syndromes}
 use Rattle.strings.specs.Bits.{Part}
 use Rattle.strings.specs.StringRule.{string_rule}
 use Rattle.strings.specs.declared.Refusal.{Refusal}
-use Rattle.strings.specs.declared.Refusal.TheVariants.{BufferTooShort}
 use Rattle.messages.specs.declared.Question.{Question}
-use Rattle.messages.specs.declared.WriteResult.{WriteResult}
-use Rattle.messages.specs.declared.WriteResult.TheVariants.{Written, TooShort}
 use Rattle.messages.specs.laws.QuestionLaws.{Within}
 use Rattle.ends.specs.declared.Holder.{Holder}
 use Rattle.ends.specs.Soundness.{holder_sound, most_answers}
 use Rattle.ends.specs.HolderCall.{sends}
 use Rattle.ends.specs.HolderOutcome.{HolderSaid, leaves_holder}
-use Rattle.ends.specs.declared.answering.HolderAnswer.TheVariants.{Replied, Refused}
 use Rattle.ends.specs.declared.answering.HolderOut.{HolderOut}
 
 -- ---- parts of the call
 -- turned down
 abbrev pub refused : Holder → Refusal → HolderOut
-refused st e = record { answer = Refused e; state = st }
+refused st e = record { answer = Err e; state = st }
 
--- what a writer's result comes to: 9 where the reply is too short
-abbrev pub written : (st next : Holder) → WriteResult → HolderOut
-written st next TooShort = refused st BufferTooShort
-written st next (Written size) = record { answer = Replied size; state = next }
+-- what a writer's result comes to
+abbrev pub written : (st next : Holder) → CodeResult ℕ Refusal → HolderOut
+written st next (Err e) = refused st e
+written st next (Ok size) = record { answer = Ok size; state = next }
 
 -- the state after the opening
 abbrev pub opened_with : (n h key : ℕ) → Holder
@@ -52,7 +48,12 @@ abbrev pub reply_outcome : (st next : Holder) → Answer → (reply : List ℕ) 
 reply_outcome st next a reply = leaves_holder st reply (sends (length reply) next (answer_bytes a))
 
 -- ---- what is required
--- the range lies in x, the hash has a width that a number holds, and an answer is left
+-- the hash has a width that a number holds, and an answer is left
+pub record Answering (st : Holder) : Type 0 where
+  pub width : st.h ≤ 32
+  pub left : st.answers < most_answers
+
+-- the same, and the range that is answered for lies in x
 pub record Answers (st : Holder) (x : List ℕ) (start len : ℕ) : Type 0 where
   pub part : Part x start len
   pub width : st.h ≤ 32

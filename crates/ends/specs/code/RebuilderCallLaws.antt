@@ -1,14 +1,14 @@
 -- Laws for the proofs of the rebuilder's call and start: which question waits, and what was read as its answer.
-use Rattle.std.specs.Prelude.{◌≡◌, Bool, true, false, ◌&&◌, ◌⊎◌, ℕ, ◌+◌, ◌-◌, ◌*◌, ◌/◌, ◌≤◌, ◌<◌, take, drop, leb, eqb}
+use Rattle.std.specs.Prelude.{◌≡◌, Result as CodeResult, Ok, Err, Bool, true, false, ◌&&◌, ◌⊎◌, ℕ, ◌+◌, ◌-◌, ◌*◌, ◌/◌, ◌≤◌, ◌<◌, take, drop, leb, eqb}
 use Rattle.std.proofs.Math.Path.{refl, ap}
-use Rattle.std.proofs.Common.{sym, ap₂, ◌∙◌, subst, inl, inr, arith, length-drop, take_all}
+use Rattle.std.proofs.Common.{sym, ap₂, ◌∙◌, subst, inl, inr, arith, length-drop, take_all, eq-eqb, ne_eqb}
 use mathlib.Core.List.{List, []}
 use Rattle.std.proofs.Math.Option.{Option, some}
 use Rattle.std.proofs.Math.ListN.{length}
 use borrow.Author.Tests.{le-leb, lt-leb, leb-true, eqb-true}
 use Rattle.strings.specs.Refusals.{refusal_number}
 use Rattle.strings.specs.Results.{Result, refusal, value, and_then}
-use Rattle.strings.specs.laws.Tests.{and_left, and_right, true-false}
+use Rattle.strings.specs.laws.Tests.{and_left, and_right}
 use Rattle.strings.specs.Bits.{range, write_bits, cleared, bytes_for, Part, at_front}
 use Rattle.strings.specs.StringRule.{string_rule}
 use Rattle.strings.proofs.laws.RuleLaws.{rule-is}
@@ -18,14 +18,12 @@ use Rattle.strings.specs.declared.Refusal.{Refusal}
 use Rattle.strings.specs.declared.Refusal.TheVariants.{BadSetting, BadString, OutOfTurn, BufferTooShort}
 use Rattle.messages.specs.declared.Kind.{Kind}
 use Rattle.messages.specs.declared.Kind.TheVariants.{Open, Hash, Syndrome, Bits, Burst}
-use Rattle.messages.specs.declared.WriteResult.{WriteResult}
-use Rattle.messages.specs.declared.WriteResult.TheVariants.{Written, TooShort}
 use Rattle.messages.specs.Writing.{put_front, said_write}
 use Rattle.messages.specs.laws.WritingLaws.{wrote-is}
 use Rattle.messages.specs.declared.Question.{Question}
 use Rattle.messages.specs.declared.Question.TheVariants.{AskOpen}
-use Rattle.messages.specs.declared.AnswerRead.{AnswerRead}
-use Rattle.messages.specs.declared.AnswerRead.TheVariants.{IsSize, IsHash, IsSyndrome, IsBits, NoAnswer, IsBurst}
+use Rattle.messages.specs.declared.Found.{Found}
+use Rattle.messages.specs.declared.Found.TheVariants.{IsSize, IsHash, IsSyndrome, IsBits, IsBurst}
 use Rattle.messages.specs.Questions.{question_kind, question_bytes, question_length, question_burst}
 use Rattle.messages.specs.Answers.{Answer, size_answer, hash_answer, syndrome_answer, bits_answer, read_answer, said_answer, BitsThere, BitsAt, burst_answer, burst_syndromes, BurstAnswered}
 use Rattle.messages.specs.laws.QuestionLaws.{burst-few}
@@ -49,7 +47,6 @@ use Rattle.ends.specs.laws.SoundSteps.{fresh-sound, opening-sound, whole-sound}
 use Rattle.ends.specs.laws.Steps.{step-opening, step-whole}
 use Rattle.ends.specs.RebuilderCall.{bits_known, Taken, opening_step, whole_state, whole_step, step_of, Capacities, enough_for, awaits, rebuilder_call, starts, rebuilder_start, fresh_rebuilder, given, Started}
 use Rattle.ends.specs.declared.rebuilding.RebuilderOut.{RebuilderOut}
-use Rattle.ends.specs.declared.rebuilding.StartAnswer.TheVariants.{Begun, NotBegun}
 use Rattle.ends.specs.declared.rebuilding.StartOut.{StartOut}
 use Rattle.ends.specs.code.StateCode.{Usable, Counts}
 use Rattle.ends.specs.code.SoundLaws.{sound-counts}
@@ -146,6 +143,10 @@ module _ (st : Rebuilder) (size capacity : ℕ) (k : BitsDue st size capacity) w
       go (inl w) = whole-opening w.phase e
       go (inr a) = pieces-opening a.0.phase e
 
+-- with a question buffer of another length
+pub acting-at : {st : Rebuilder} {size capacity : ℕ} → Acting st size capacity → (other : ℕ) → 8 ≤ other → Acting st size other
+acting-at k other h = record { sound-now = k.sound-now; array = k.array; phase = k.phase; some = k.some; short = k.short; enough = h }
+
 pub stage-asks : {t u : Stage} → t ≡ u → AsksBits t → AsksBits u
 stage-asks e h = rw e at h
 
@@ -214,11 +215,11 @@ pub burst-most : (st : Rebuilder) (q : Question) → sound st ≡ true → plann
 burst-most st q s p = burst-few _ q (question-range st q s p).0.within
 
 -- ---- what was read
-module _ (st : Rebuilder) (msg : List ℕ) (len cols : ℕ) (read : AnswerRead) (d : Due st msg len cols read) where
+module _ (st : Rebuilder) (msg : List ℕ) (len cols : ℕ) (found : Found) (d : Due st msg len cols found) where
   framed-now : Framed st
   framed-now = (sound-is st d.sound-now).0
 
-  module _ (a : Answer) (v : said_answer msg len cols read ≡ value a) where
+  module _ (a : Answer) (v : said_answer msg len cols (Ok found) ≡ value a) where
     read-value : read_answer (question_kind d.question) (question_length d.question) (question_burst d.question) st.settings.h msg ≡ value a
     read-value = sym d.read_is ∙ v
 
@@ -241,56 +242,56 @@ module _ (st : Rebuilder) (msg : List ℕ) (len cols : ℕ) (read : AnswerRead) 
         let z = size-now in
         record { sound-now = d.sound-now; array = d.array; phase = k.phase; some = k.some; short = omega arith; enough = h }
 
-  pub heard-size : (n : ℕ) → read ≡ IsSize n → (capacity : ℕ) → 8 ≤ capacity → Opening st n capacity
+  pub heard-size : (n : ℕ) → found ≡ IsSize n → (capacity : ℕ) → 8 ≤ capacity → Opening st n capacity
   heard-size n f capacity h =
-      let v = ap (said_answer msg len cols) f in
+      let v = ap (λ (z : Found). said_answer msg len cols (Ok z)) f in
       record { sound-now = d.sound-now; array = d.array; phase = kind-now (size_answer n) v; small = (proper-now (size_answer n) v).values; enough = h }
 
-  pub heard-hash : (v : ℕ) → read ≡ IsHash v → (capacity : ℕ) → 8 ≤ capacity → Acting st (length msg) capacity × ((st.stage ≡ Hashing) × ((top st).q ≡ (top st).p))
+  pub heard-hash : (v : ℕ) → found ≡ IsHash v → (capacity : ℕ) → 8 ≤ capacity → Acting st (length msg) capacity × ((st.stage ≡ Hashing) × ((top st).q ≡ (top st).p))
   heard-hash v f capacity h =
-      let w = ap (said_answer msg len cols) f in
+      let w = ap (λ (z : Found). said_answer msg len cols (Ok z)) f in
       let k = kind-now (hash_answer v) w in
       (piece-acting (hash_answer v) w k.0 capacity h, (k.1, k.2))
 
-  pub heard-syndrome : (a v : ℕ) → read ≡ IsSyndrome a v → (capacity : ℕ) → 8 ≤ capacity → Acting st (length msg) capacity × RepairDue st
+  pub heard-syndrome : (a v : ℕ) → found ≡ IsSyndrome a v → (capacity : ℕ) → 8 ≤ capacity → Acting st (length msg) capacity × RepairDue st
   heard-syndrome a v f capacity h =
-      let w = ap (said_answer msg len cols) f in
+      let w = ap (λ (z : Found). said_answer msg len cols (Ok z)) f in
       let k = kind-now (syndrome_answer a v) w in
       (piece-acting (syndrome_answer a v) w k.0 capacity h, k.1)
 
-  pub heard-burst : (v : ℕ) → read ≡ IsBurst v → (capacity : ℕ) → 8 ≤ capacity → Acting st (length msg) capacity × BurstDue st
+  pub heard-burst : (v : ℕ) → found ≡ IsBurst v → (capacity : ℕ) → 8 ≤ capacity → Acting st (length msg) capacity × BurstDue st
   heard-burst v f capacity h =
-      let w = ap (said_answer msg len cols) f in
+      let w = ap (λ (z : Found). said_answer msg len cols (Ok z)) f in
       let k = kind-now (burst_answer (burst_syndromes cols msg) v) w in
       (piece-acting (burst_answer (burst_syndromes cols msg) v) w k.0 capacity h, k.1)
 
   -- as many columns as the lengths are bits apart
-  pub burst-cols : (v : ℕ) → read ≡ IsBurst v → cols ≡ burst_of st
+  pub burst-cols : (v : ℕ) → found ≡ IsBurst v → cols ≡ burst_of st
   burst-cols v f =
-      let k = kind-now (burst_answer (burst_syndromes cols msg) v) (ap (said_answer msg len cols) f) in
+      let k = kind-now (burst_answer (burst_syndromes cols msg) v) (ap (λ (z : Found). said_answer msg len cols (Ok z)) f) in
       let e = k.0.asked in
       d.asked-burst ∙ ap question_burst (sym e) ∙ ap (λ (t : Stage). question_burst (asks st.settings (top st).x (top st).p (top st).q t)) k.1.stage
 
   pub cols-few : cols ≤ 32
   cols-few = let m = burst-most st d.question d.sound-now d.asked in let e = d.asked-burst in omega arith
 
-  pub burst-answered : (v : ℕ) → read ≡ IsBurst v → BurstAnswered cols msg
+  pub burst-answered : (v : ℕ) → found ≡ IsBurst v → BurstAnswered cols msg
   burst-answered v f = record {
     kind = question_kind d.question;
     len = question_length d.question;
     h = st.settings.h;
     syndromes = burst_syndromes cols msg;
     hash = v;
-    read = ap (λ (c : ℕ). read_answer (question_kind d.question) (question_length d.question) c st.settings.h msg) d.asked-burst ∙ read-value (burst_answer (burst_syndromes cols msg) v) (ap (said_answer msg len cols) f);
+    read = ap (λ (c : ℕ). read_answer (question_kind d.question) (question_length d.question) c st.settings.h msg) d.asked-burst ∙ read-value (burst_answer (burst_syndromes cols msg) v) (ap (λ (z : Found). said_answer msg len cols (Ok z)) f);
   }
 
   -- the bits that were read
-  module _ (at : ℕ) (f : read ≡ IsBits at) where
+  module _ (at : ℕ) (f : found ≡ IsBits at) where
     abbrev bits_heard : Answer
     bits_heard = bits_answer (range msg (8 * at) len)
 
     bits-due : (due_length st ≡ len) × ((st.phase ≡ AtWhole) ⊎ (ForPiece st d.question × AsksBits st.stage))
-    bits-due = rw d.asked-length (kind-now bits_heard (ap (said_answer msg len cols) f))
+    bits-due = rw d.asked-length (kind-now bits_heard (ap (λ (z : Found). said_answer msg len cols (Ok z)) f))
 
     pub heard-bits : (capacity : ℕ) → 8 ≤ capacity → BitsDue st (length msg) capacity × (due_length st ≡ len)
     heard-bits capacity h = (record { phases = go bits-due.1 }, bits-due.0)
@@ -299,22 +300,22 @@ module _ (st : Rebuilder) (msg : List ℕ) (len cols : ℕ) (read : AnswerRead) 
         go (inl p) =
             let e : st.n ≡ len = sym (due-whole st p) ∙ bits-due.0 in
             let r = range_length msg (8 * at) len in
-            let q = size-now bits_heard (ap (said_answer msg len cols) f) in
+            let q = size-now bits_heard (ap (λ (z : Found). said_answer msg len cols (Ok z)) f) in
             let u = size-bits (range msg (8 * at) len) in
             inl record { sound-now = d.sound-now; phase = p; short = omega arith; enough = h }
-        go (inr k) = inr (piece-acting bits_heard (ap (said_answer msg len cols) f) k.0 capacity h, k.1)
+        go (inr k) = inr (piece-acting bits_heard (ap (λ (z : Found). said_answer msg len cols (Ok z)) f) k.0 capacity h, k.1)
 
     bits-there : BitsAt len msg at
-    bits-there = bits-read msg len at d.bits-there f
+    bits-there = bits-read msg len at d.bits-there (ap Ok f)
 
-  pub bits_inside : (at : ℕ) → read ≡ IsBits at → at ≤ length msg
+  pub bits_inside : (at : ℕ) → found ≡ IsBits at → at ≤ length msg
   bits_inside at f = (bits-there at f).inside
 
   -- a slice from byte at on
   rest-whole : (at : ℕ) → take (length msg - at) (drop at msg) ≡ drop at msg
   rest-whole at = let n = length-drop at msg in take_all (length msg - at) (drop at msg) (omega arith)
 
-  pub bits-long : (at : ℕ) → read ≡ IsBits at → due_length st ≤ 8 * length (take (length msg - at) (drop at msg))
+  pub bits-long : (at : ℕ) → found ≡ IsBits at → due_length st ≤ 8 * length (take (length msg - at) (drop at msg))
   bits-long at f =
       let e = (heard-bits at f 8 (omega arith)).1 in
       let b = (bits-there at f).string.bytes in
@@ -322,71 +323,69 @@ module _ (st : Rebuilder) (msg : List ℕ) (len cols : ℕ) (read : AnswerRead) 
       rw r (omega arith)
 
   -- ---- what a taken answer leaves
-  pub read-said : {b : AnswerRead} → read ≡ b → (y s q : List ℕ) {x : RebuilderSaid} → x ≡ leaves_rebuilder st s q (heard_step st y msg len cols b) → x ≡ leaves_rebuilder st s q (heard_step st y msg len cols read)
-  read-said e y s q f = f ∙ ap (λ (z : AnswerRead). leaves_rebuilder st s q (heard_step st y msg len cols z)) (sym e)
+  pub read-said : {b : Found} → found ≡ b → (y s q : List ℕ) {x : RebuilderSaid} → x ≡ leaves_rebuilder st s q (heard_step st y msg len cols b) → x ≡ leaves_rebuilder st s q (heard_step st y msg len cols found)
+  read-said e y s q f = f ∙ ap (λ (z : Found). leaves_rebuilder st s q (heard_step st y msg len cols z)) (sym e)
 
-  pub bits-said : (at : ℕ) → read ≡ IsBits at → (y s q : List ℕ) {x : RebuilderSaid}
+  pub bits-said : (at : ℕ) → found ≡ IsBits at → (y s q : List ℕ) {x : RebuilderSaid}
       → x ≡ leaves_rebuilder st s q (step_taken (step_of st y (length msg) (bits_answer (range (take (length msg - at) (drop at msg)) 0 (due_length st)))))
-      → x ≡ leaves_rebuilder st s q (heard_step st y msg len cols read)
+      → x ≡ leaves_rebuilder st s q (heard_step st y msg len cols found)
   bits-said at f y s q g =
       let e = (heard-bits at f 8 (omega arith)).1 in
       let r : range (take (length msg - at) (drop at msg)) 0 (due_length st) ≡ range msg (8 * at) len = ap₂ (λ (t : List ℕ) (i : ℕ). range t 0 i) (rest-whole at) e ∙ sym (range-rest msg at len (bits_inside at f)) in
       read-said f y s q (g ∙ ap (λ (l : List Bool). leaves_rebuilder st s q (step_taken (step_of st y (length msg) (bits_answer l)))) r)
 
-  pub burst-said : (v : ℕ) → read ≡ IsBurst v → (a : List ℕ) → take cols a ≡ burst_syndromes cols msg → (y s q : List ℕ) {x : RebuilderSaid}
+  pub burst-said : (v : ℕ) → found ≡ IsBurst v → (a : List ℕ) → take cols a ≡ burst_syndromes cols msg → (y s q : List ℕ) {x : RebuilderSaid}
       → x ≡ leaves_rebuilder st s q (step_taken (step_of st y (length msg) (burst_answer (take (burst_of st) a) v)))
-      → x ≡ leaves_rebuilder st s q (heard_step st y msg len cols read)
+      → x ≡ leaves_rebuilder st s q (heard_step st y msg len cols found)
   burst-said v f a e y s q g =
       let r : take (burst_of st) a ≡ burst_syndromes cols msg = ap (λ (n : ℕ). take n a) (sym (burst-cols v f)) ∙ e in
       read-said f y s q (g ∙ ap (λ (l : List ℕ). leaves_rebuilder st s q (step_taken (step_of st y (length msg) (burst_answer l v)))) r)
 
   -- ---- in lent buffers
   -- the bits that the call counts its buffers by
-  size-known : (n : ℕ) → read ≡ IsSize n → bits_known st (size_answer n) ≡ n
+  size-known : (n : ℕ) → found ≡ IsSize n → bits_known st (size_answer n) ≡ n
   size-known n f = rw (heard-size n f 8 (omega arith)).phase refl
 
   later-known : {size capacity : ℕ} (a : Answer) → Acting st size capacity → bits_known st a ≡ st.n
   later-known a k = rw k.phase refl
 
-  hash-known : (v : ℕ) → read ≡ IsHash v → bits_known st (hash_answer v) ≡ st.n
+  hash-known : (v : ℕ) → found ≡ IsHash v → bits_known st (hash_answer v) ≡ st.n
   hash-known v f = later-known (hash_answer v) (heard-hash v f 8 (omega arith)).0
 
-  syndrome-known : (a v : ℕ) → read ≡ IsSyndrome a v → bits_known st (syndrome_answer a v) ≡ st.n
+  syndrome-known : (a v : ℕ) → found ≡ IsSyndrome a v → bits_known st (syndrome_answer a v) ≡ st.n
   syndrome-known a v f = later-known (syndrome_answer a v) (heard-syndrome a v f 8 (omega arith)).0
 
-  burst-known : (v : ℕ) → read ≡ IsBurst v → bits_known st (burst_answer (burst_syndromes cols msg) v) ≡ st.n
+  burst-known : (v : ℕ) → found ≡ IsBurst v → bits_known st (burst_answer (burst_syndromes cols msg) v) ≡ st.n
   burst-known v f = later-known (burst_answer (burst_syndromes cols msg) v) (heard-burst v f 8 (omega arith)).0
 
-  bits-known : (at : ℕ) (l : List Bool) → read ≡ IsBits at → bits_known st (bits_answer l) ≡ st.n
+  bits-known : (at : ℕ) (l : List Bool) → found ≡ IsBits at → bits_known st (bits_answer l) ≡ st.n
   bits-known at l f = go (heard-bits at f 8 (omega arith)).0.phases
     where
       go : (WholeDue st (length msg) 8) ⊎ (Acting st (length msg) 8 × AsksBits st.stage) → bits_known st (bits_answer l) ≡ st.n
       go (inl w) = rw w.phase refl
       go (inr a) = later-known (bits_answer l) a.0
 
-  pub hears-short : (y : List ℕ) (r : Capacities) → enough_for_answer st r read ≡ false → and_then (said_answer msg len cols read) (given st y msg r) ≡ refusal (refusal_number BufferTooShort)
-  hears-short y r e = go read refl e
+  pub hears-short : (y : List ℕ) (r : Capacities) → enough_for_answer st r found ≡ false → and_then (said_answer msg len cols (Ok found)) (given st y msg r) ≡ refusal (refusal_number BufferTooShort)
+  hears-short y r e = go found refl e
     where
-      go : (x : AnswerRead) → read ≡ x → enough_for_answer st r x ≡ false → and_then (said_answer msg len cols x) (given st y msg r) ≡ refusal (refusal_number BufferTooShort)
+      go : (x : Found) → found ≡ x → enough_for_answer st r x ≡ false → and_then (said_answer msg len cols (Ok x)) (given st y msg r) ≡ refusal (refusal_number BufferTooShort)
       go (IsSize n) f e = rw (size-known n f, e) refl
       go (IsHash v) f e = rw (hash-known v f, e) refl
       go (IsSyndrome a v) f e = rw (syndrome-known a v f, e) refl
       go (IsBits at) f e = rw (bits-known at (range msg (8 * at) len) f, e) refl
       go (IsBurst v) f e = rw (burst-known v f, e) refl
-      go (NoAnswer x) f e = absurd (true-false e)
 
-  pub hears-long : (y : List ℕ) (r : Capacities) → enough_for_answer st r read ≡ true → and_then (said_answer msg len cols read) (given st y msg r) ≡ heard_step st y msg len cols read
-  hears-long y r e = go read refl e
+  pub hears-long : (y : List ℕ) (r : Capacities) → enough_for_answer st r found ≡ true → and_then (said_answer msg len cols (Ok found)) (given st y msg r) ≡ heard_step st y msg len cols found
+  hears-long y r e = go found refl e
     where
-      go : (x : AnswerRead) → read ≡ x → enough_for_answer st r x ≡ true → and_then (said_answer msg len cols x) (given st y msg r) ≡ heard_step st y msg len cols x
+      go : (x : Found) → found ≡ x → enough_for_answer st r x ≡ true → and_then (said_answer msg len cols (Ok x)) (given st y msg r) ≡ heard_step st y msg len cols x
       go (IsSize n) f e = rw (size-known n f, e) refl
       go (IsHash v) f e = rw (hash-known v f, e) refl
       go (IsSyndrome a v) f e = rw (syndrome-known a v f, e) refl
       go (IsBits at) f e = rw (bits-known at (range msg (8 * at) len) f, e) refl
       go (IsBurst v) f e = rw (burst-known v f, e) refl
-      go (NoAnswer x) f e = refl
 
-  pub enough-for : (r : Capacities) → enough_for_answer st r read ≡ true → {b : AnswerRead} → read ≡ b → enough_for_answer st r b ≡ true
+  pub enough-for : (r : Capacities) → enough_for_answer st r found ≡ true → {b : Found} → found ≡ b → enough_for_answer st r b ≡ true
   enough-for r e f = sym (ap (enough_for_answer st r) f) ∙ e
 
 pub whole-small : (st : Rebuilder) (size capacity : ℕ) → BitsDue st size capacity → size < 4294967296
@@ -400,22 +399,49 @@ pub acting-small : (st : Rebuilder) (size capacity : ℕ) → Acting st size cap
 acting-small st size capacity k = let s = size-most st size capacity k in omega arith
 
 -- ---- the message for the question that waits
-module _ (st : Rebuilder) (msg : List ℕ) (q : Question) (len cols : ℕ) (kind : Kind) (read : AnswerRead) (ln : len ≡ question_length q) (cn : cols ≡ question_burst q) (kn : kind ≡ question_kind q)
+module _ (st : Rebuilder) (msg : List ℕ) (q : Question) (len cols : ℕ) (kind : Kind) (read : CodeResult Found Refusal) (ln : len ≡ question_length q) (cn : cols ≡ question_burst q) (kn : kind ≡ question_kind q)
     (rd : said_answer msg len cols read ≡ read_answer kind len cols st.settings.h msg) where
   read-for : said_answer msg len cols read ≡ read_answer (question_kind q) (question_length q) (question_burst q) st.settings.h msg
   read-for = rd ∙ ap₂ (λ (k : Kind) (l : ℕ). read_answer k l cols st.settings.h msg) kn ln ∙ ap (λ (c : ℕ). read_answer (question_kind q) (question_length q) c st.settings.h msg) cn
 
-  pub due : sound st ≡ true → planned st ≡ some q → length st.pieces ≡ 32 → Bytes msg → BitsThere msg len read → Due st msg len cols read
-  due s p a b t = record { sound-now = s; array = a; bytes = b; question = q; asked = p; asked-length = ln; asked-burst = cn; read_is = read-for; bits-there = t }
+  pub due : sound st ≡ true → planned st ≡ some q → length st.pieces ≡ 32 → Bytes msg → BitsThere msg len read → (found : Found) → read ≡ Ok found → Due st msg len cols found
+  due s p a b t found e = record {
+    sound-now = s;
+    array = a;
+    bytes = b;
+    question = q;
+    asked = p;
+    asked-length = ln;
+    asked-burst = cn;
+    read_is = sym (ap (said_answer msg len cols) e) ∙ read-for;
+    bits-there = subst (BitsThere msg len) e t;
+  }
 
-  pub awaits-hears : (y : List ℕ) (r : Capacities) → awaits st y msg r (some q) ≡ and_then (said_answer msg len cols read) (given st y msg r)
-  awaits-hears y r = ap (λ (z : Result Answer). and_then z (given st y msg r)) (sym read-for)
+  pub awaits-hears : (y : List ℕ) (r : Capacities) (x : CodeResult Found Refusal) → read ≡ x → awaits st y msg r (some q) ≡ and_then (said_answer msg len cols x) (given st y msg r)
+  awaits-hears y r x e = ap (λ (z : Result Answer). and_then z (given st y msg r)) (sym read-for ∙ ap (said_answer msg len cols) e)
+
+  -- a message that is no answer is turned down for that, whatever was lent
+  pub no-answer : (y : List ℕ) (r : Capacities) (e : Refusal) → read ≡ Err e → awaits st y msg r (some q) ≡ refusal (refusal_number e)
+  no-answer y r e f = awaits-hears y r (Err e) f
 
 pub taken-said : (st : Rebuilder) (s q : List ℕ) {a b : Result Taken} {x : RebuilderSaid} → a ≡ b → x ≡ leaves_rebuilder st s q b → x ≡ leaves_rebuilder st s q a
 taken-said st s q e f = f ∙ ap (leaves_rebuilder st s q) (sym e)
 
 pub refused-said : (st : Rebuilder) (e : Refusal) (s q : List ℕ) {r : RebuilderOut} {a : Result Taken} → r ≡ turned_down e st → a ≡ refusal (refusal_number e) → said_rebuilder r s q ≡ leaves_rebuilder st s q a
 refused-said st e s q f g = ap (λ (z : RebuilderOut). said_rebuilder z s q) f ∙ ap (leaves_rebuilder st s q) (sym g)
+
+-- whether the copy is the one that the state was made for, by what its two tests said
+module _ (ybits : ℕ) (y : List ℕ) (bits : ℕ) {b : Bool} (rule : b ≡ string_rule y bits) where
+  pub copy-kept : b ≡ true → ybits ≡ bits → (string_rule y bits && eqb ybits bits) ≡ true
+  copy-kept e f = rw (sym rule ∙ e, eq-eqb ybits bits f) refl
+
+  pub copy-lost : (b ≡ false) ⊎ ((b ≡ true) × (ybits ≡ bits → ⊥)) → (string_rule y bits && eqb ybits bits) ≡ false
+  copy-lost (inl e) = rw (sym rule ∙ e) refl
+  copy-lost (inr f) = rw (ne_eqb ybits bits f.1) (either (string_rule y bits))
+    where
+      either : (r : Bool) → (r && false) ≡ false
+      either true = refl
+      either false = refl
 
 pub copy-there : (st : Rebuilder) (y : List ℕ) (bits : ℕ) → (string_rule y bits && eqb st.ybits bits) ≡ true → st.ybits ≤ 8 * length y
 copy-there st y bits e =
@@ -439,14 +465,14 @@ module _ (st : Rebuilder) (y : List ℕ) (bits : ℕ) (msg : List ℕ) (r : Capa
     call-awaits f g = rw (e, f, g) refl
 
 -- ---- the start
-pub not-begun-out : (e : Refusal) {st : Rebuilder} → st ≡ no_rebuilder → ◌≡◌ {A = StartOut} (record { answer = NotBegun e; state = st }) (record { answer = NotBegun e; state = no_rebuilder })
-not-begun-out e f = (λ i. record { answer = NotBegun e; state = f i })
+pub not-begun-out : (e : Refusal) {st : Rebuilder} → st ≡ no_rebuilder → ◌≡◌ {A = StartOut} (record { answer = Err e; state = st }) (record { answer = Err e; state = no_rebuilder })
+not-begun-out e f = (λ i. record { answer = Err e; state = f i })
 
 module _ (S : Settings) (y : List ℕ) (bits : ℕ) (q : List ℕ) where
   abbrev started : Result Started
   started = rebuilder_start S y bits (length q)
 
-  pub start-refused : (e : Refusal) {o : StartOut} → o ≡ record { answer = NotBegun e; state = no_rebuilder } → started ≡ refusal (refusal_number e) → said_start o q ≡ leaves_start q started
+  pub start-refused : (e : Refusal) {o : StartOut} → o ≡ record { answer = Err e; state = no_rebuilder } → started ≡ refusal (refusal_number e) → said_start o q ≡ leaves_start q started
   start-refused e f g = ap (λ (z : StartOut). said_start z q) f ∙ ap (leaves_start q) (sym g)
 
   pub start-bad-setting : within_limits S ≡ false → started ≡ refusal (refusal_number BadSetting)
@@ -475,14 +501,14 @@ module _ (S : Settings) (y : List ℕ) (bits : ℕ) (q : List ℕ) where
         unfolding planned
         opening-short = question-short (fresh_rebuilder S bits) (AskOpen S.h S.key) (fresh-sound S bits (limits-is S a) (rule-is y bits b).few).0 refl
 
-        module _ (w : WriteResult) (q' : List ℕ) (wr : said_write w q' ≡ put_front (question_bytes (AskOpen S.h S.key)) q) where
-          opening-fits : (w ≡ Written (length (question_bytes (AskOpen S.h S.key)))) × (q' ≡ at_front (question_bytes (AskOpen S.h S.key)) q)
+        module _ (w : CodeResult ℕ Refusal) (q' : List ℕ) (wr : said_write w q' ≡ put_front (question_bytes (AskOpen S.h S.key)) q) where
+          opening-fits : (w ≡ Ok (length (question_bytes (AskOpen S.h S.key)))) × (q' ≡ at_front (question_bytes (AskOpen S.h S.key)) q)
           opening-fits = let o = opening-short in wrote-is w q' (question_bytes (AskOpen S.h S.key)) q wr (omega arith)
 
-          pub start_fits : w ≡ TooShort → ⊥
+          pub start_fits : {x : Refusal} → w ≡ Err x → ⊥
           start_fits e = let f = opening-fits.0 in let n : ◌≡◌ {A = ℕ} 0 1 = cc in omega arith
 
-          pub start-begun : {size : ℕ} → w ≡ Written size → {st : Rebuilder} → st ≡ fresh_rebuilder S bits → said_start (record { answer = Begun size; state = st }) q' ≡ leaves_start q started
+          pub start-begun : {size : ℕ} → w ≡ Ok size → {st : Rebuilder} → st ≡ fresh_rebuilder S bits → said_start (record { answer = Ok size; state = st }) q' ≡ leaves_start q started
           start-begun {size} e {st} f =
               let g = opening-fits.0 in
               let n : size ≡ length (question_bytes (AskOpen S.h S.key)) = cc in

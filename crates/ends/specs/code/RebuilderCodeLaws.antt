@@ -1,11 +1,12 @@
 -- Laws for the proofs of src/steps.rt and src/rebuilding.rt.
-use Rattle.std.specs.Prelude.{◌≡◌, Bool, true, false, List, [], ◌∷◌, ℕ, ◌+◌, ◌-◌, ◌*◌, max, ◌≤◌, ◌<◌, length, take}
+use Rattle.std.specs.Prelude.{◌≡◌, Option as CodeOption, Some, None, Result as CodeResult, Ok, Err, Bool, true, false, List, [], ◌∷◌, ℕ, ◌+◌, ◌-◌, ◌*◌, max, ◌≤◌, ◌<◌, length, take}
 use Rattle.std.proofs.Math.Path.{refl, ap}
 use Rattle.std.proofs.Common.{sym, ap₂, ◌∙◌, subst, inl, inr, lit≤}
 use Rattle.std.proofs.Math.Option.{Option, none, some}
 use native.Mathlib.Omega.{arith}
 use borrow.Author.Tests.{eq-eqb, ne_eqb}
 use Rattle.strings.specs.Results.{Result, value}
+use Rattle.strings.specs.declared.Refusal.{Refusal}
 use Rattle.codes.specs.laws.TrialLaws.{agreed-some, agreed-none, tried-settled, tried-left}
 use Rattle.codes.specs.Trials.{agreeing, tried_at}
 use Rattle.strings.specs.Bits.{range, write_bits, Part, at_front, max_bits}
@@ -15,8 +16,6 @@ use Rattle.codes.specs.Repair.{repair_to, OneApart}
 use Rattle.codes.specs.laws.RepairLaws.{repair-put-in, repair-take-out}
 use Rattle.messages.specs.declared.Question.{Question}
 use Rattle.messages.specs.declared.Question.TheVariants.{AskBits}
-use Rattle.messages.specs.declared.WriteResult.{WriteResult}
-use Rattle.messages.specs.declared.WriteResult.TheVariants.{Written, TooShort}
 use Rattle.messages.specs.Questions.{question_bytes}
 use Rattle.messages.specs.laws.QuestionLaws.{InRange, question-size, question-some}
 use Rattle.messages.specs.Answers.{Answer, hash_answer, syndrome_answer, bits_answer, burst_answer}
@@ -40,14 +39,8 @@ use Rattle.ends.specs.Anchors.{place, Best, fits as anchor_fits, place_distance,
 use Rattle.ends.specs.laws.AnchorLaws.{place-best}
 use Rattle.ends.specs.laws.Steps.{step-pieces}
 use Rattle.ends.specs.RebuilderCall.{tallied, Step, effect_step, step_of, string_after, written_question}
-use Rattle.ends.specs.declared.anchors.Place.{Place}
-use Rattle.ends.specs.declared.anchors.Place.TheVariants.{At, Nowhere}
 use Rattle.ends.specs.AnchorSearch.{place_in}
-use Rattle.ends.specs.code.Window.{Searching}
-use Rattle.ends.specs.declared.state.Plan.{Plan}
-use Rattle.ends.specs.declared.state.Plan.TheVariants.{Ask, Finished}
-use Rattle.ends.specs.declared.rebuilding.RebuilderAnswer.{RebuilderAnswer}
-use Rattle.ends.specs.declared.rebuilding.RebuilderAnswer.TheVariants.{Asks}
+use Rattle.ends.specs.code.Window.{SearchBounds, Searching}
 use Rattle.ends.specs.declared.rebuilding.RebuilderOut.{RebuilderOut}
 use Rattle.ends.specs.code.StateCode.{Usable, Holds, Stages, Retries, Splits, Counts, Offsets, plan_of}
 use Rattle.ends.specs.code.SoundLaws.{sound-counts}
@@ -86,42 +79,42 @@ next-said : (m : List ℕ) → call_said (next_answer m) ≡ value (next_size m)
 next-said [] = refl
 next-said (b ∷ m) = refl
 
-next-asks : (m : List ℕ) → 0 < length m → next_answer m ≡ Asks (length m)
+next-asks : (m : List ℕ) → 0 < length m → next_answer m ≡ Ok (Some (length m))
 next-asks [] h = absurd (omega arith)
 next-asks (b ∷ m) h = refl
 
 abbrev pub given_back : (m : List ℕ) → Rebuilder → SheetChange → RebuilderOut
 given_back m s k = record { answer = next_answer m; state = s; sheet = k; answered = s.answered; counted = s.counted }
 
-pub none-planned : (o : Option Question) → plan_of o ≡ Finished → o ≡ none
+pub none-planned : (o : Option Question) → plan_of o ≡ None → o ≡ none
 none-planned none z = refl
 none-planned (some q) z = let w : ◌≡◌ {A = ℕ} 0 1 = cc in absurd (omega arith)
 
-pub some-planned : (o : Option Question) (q : Question) → plan_of o ≡ Ask q → o ≡ some q
+pub some-planned : (o : Option Question) (q : Question) → plan_of o ≡ Some q → o ≡ some q
 some-planned none q z = let w : ◌≡◌ {A = ℕ} 0 1 = cc in absurd (omega arith)
 some-planned (some r) q z = let d : r ≡ q = cc in ap some d
 
-module _ (s : Rebuilder) (k : SheetChange) (buf : List ℕ) (e : sound s ≡ true) (capacity : 8 ≤ length buf) {p : Plan} (pl : p ≡ plan_of (planned s)) where
-  pub finished-out : p ≡ Finished → (r : RebuilderOut) → r ≡ given_back [] s k → OutIs r s k buf buf
+module _ (s : Rebuilder) (k : SheetChange) (buf : List ℕ) (e : sound s ≡ true) (capacity : 8 ≤ length buf) {p : CodeOption Question} (pl : p ≡ plan_of (planned s)) where
+  pub finished-out : p ≡ None → (r : RebuilderOut) → r ≡ given_back [] s k → OutIs r s k buf buf
   finished-out z r f =
       let n : planned s ≡ none = none-planned (planned s) (sym pl ∙ z) in
       record { out = f ∙ sym (ap (λ (o : Option Question). given_back (written_question o) s k) n); question = sym (ap (λ (o : Option Question). at_front (written_question o) buf) n) }
 
-  module _ {q : Question} (z : p ≡ Ask q) (w : WriteResult) (buf' : List ℕ) (wr : said_write w buf' ≡ put_front (question_bytes q) buf) where
-    fits : (w ≡ Written (length (question_bytes q))) × (buf' ≡ at_front (question_bytes q) buf)
+  module _ {q : Question} (z : p ≡ Some q) (w : CodeResult ℕ Refusal) (buf' : List ℕ) (wr : said_write w buf' ≡ put_front (question_bytes q) buf) where
+    fits : (w ≡ Ok (length (question_bytes q))) × (buf' ≡ at_front (question_bytes q) buf)
     fits = let h = question-short s q e (some-planned (planned s) q (sym pl ∙ z)) in wrote-is w buf' (question_bytes q) buf wr (omega arith)
 
-    pub short-out : w ≡ TooShort → ⊥
+    pub short-out : {x : Refusal} → w ≡ Err x → ⊥
     short-out y = let f = fits.0 in let n : ◌≡◌ {A = ℕ} 0 1 = cc in omega arith
 
-    pub asked-out : {size : ℕ} → w ≡ Written size → (r : RebuilderOut) → r ≡ record { answer = Asks size; state = s; sheet = k; answered = s.answered; counted = s.counted } → OutIs r s k buf buf'
+    pub asked-out : {size : ℕ} → w ≡ Ok size → (r : RebuilderOut) → r ≡ record { answer = Ok (Some size); state = s; sheet = k; answered = s.answered; counted = s.counted } → OutIs r s k buf buf'
     asked-out {size} y r g =
         let f = fits.0 in
         let n : planned s ≡ some q = some-planned (planned s) q (sym pl ∙ z) in
         let a : size ≡ length (question_bytes q) = cc in
         record {
-          out = g ∙ ap (λ (i : ℕ). record { answer = Asks i; state = s; sheet = k; answered = s.answered; counted = s.counted }) a
-              ∙ ap (λ (x : RebuilderAnswer). record { answer = x; state = s; sheet = k; answered = s.answered; counted = s.counted }) (sym (next-asks (question_bytes q) (question-some q)))
+          out = g ∙ ap (λ (i : ℕ). record { answer = Ok (Some i); state = s; sheet = k; answered = s.answered; counted = s.counted }) a
+              ∙ ap (λ (x : CodeResult (CodeOption ℕ) Refusal). record { answer = x; state = s; sheet = k; answered = s.answered; counted = s.counted }) (sym (next-asks (question_bytes q) (question-some q)))
               ∙ sym (ap (λ (o : Option Question). given_back (written_question o) s k) n);
           question = fits.1 ∙ sym (ap (λ (o : Option Question). at_front (written_question o) buf) n);
         }
@@ -419,13 +412,13 @@ pub repaired-out : (st : Rebuilder) {t : Piece} (tp : t ≡ top st) {h : How} �
 repaired-out st tp g {r} {s} {q} {q'} o = subst (λ (w : How). OutIs r s (AddRow st.rows (row (top st).x (top st).p w)) q q') (g ∙ ap (λ (z : Piece). repair_how z.p z.q) tp) o
 
 -- ---- the anchor's place
-pub place-some : {p : Place} (o : Option ℕ) → p ≡ place_in o → {r : ℕ} → p ≡ At r → o ≡ some r
-place-some none e f = let z : ◌≡◌ {A = ℕ} 0 1 = cc in absurd (omega arith)
-place-some (some i) e {r} f = let d : i ≡ r = cc in ap some d
+pub place-some : {p : CodeOption ℕ} (o : Option ℕ) → p ≡ place_in o → {r : ℕ} → p ≡ Some r → o ≡ some r
+place-some none e f = cc
+place-some (some i) e f = cc
 
-pub place_none : {p : Place} (o : Option ℕ) → p ≡ place_in o → p ≡ Nowhere → o ≡ none
+pub place_none : {p : CodeOption ℕ} (o : Option ℕ) → p ≡ place_in o → p ≡ None → o ≡ none
 place_none none e f = refl
-place_none (some i) e f = let z : ◌≡◌ {A = ℕ} 0 1 = cc in absurd (omega arith)
+place_none (some i) e f = cc
 
 pub place-within : (m k p s : ℕ) (ys b : List Bool) (r : ℕ) → place m k p s ys b ≡ some r → r + m ≤ length ys
 place-within m k p s ys b r e =
@@ -454,6 +447,12 @@ module _ {st : Rebuilder} {size capacity : ℕ} (k : Acting st size capacity) {i
         let L = (framed st size capacity k).limits in let o = offset-within in let m = L.m-most in
         rw tp record { piece = omega arith; few = omega arith; length_most = omega arith; offset-most = omega arith; m-most = m; k-most = L.k-most; anchor = omega arith; anchor-few = omega arith }
 
+    pub search-limits : SearchBounds t.p s st.settings.m st.settings.k
+    search-limits =
+        let a = (topped st size capacity k).in_x in let n = (framed st size capacity k).size in let L = (framed st size capacity k).limits in let o = offset-within in
+        let m = L.m-most in
+        rw tp record { length_most = omega arith; offset-most = omega arith; m-most = m; k-most = L.k-most }
+
     pub anchor-start : t.x + s < 4294967296
     anchor-start = let a = (topped st size capacity k).in_x in let n = (framed st size capacity k).size in let o = offset-within in rw tp (omega arith)
 
@@ -463,33 +462,33 @@ module _ {st : Rebuilder} {size capacity : ℕ} (k : Acting st size capacity) {i
     pub anchor-text : (string : List ℕ) → st.n ≤ 8 * length string → Part string (t.x + s) st.settings.m
     anchor-text string h = let a = (topped st size capacity k).in_x in let n = (framed st size capacity k).size in let o = offset-within in rw tp record { there = omega arith; few = omega arith }
 
-    module _ (y : List ℕ) (b : List Bool) {p : Place} (pp : p ≡ place_in (place st.settings.m st.settings.k t.p s (range y t.y t.q) b)) where
-      found-place : {r : ℕ} → p ≡ At r → place st.settings.m st.settings.k (top st).p (offset st.settings.m (top st).p i) (range y (top st).y (top st).q) b ≡ some r
+    module _ (y : List ℕ) (b : List Bool) {p : CodeOption ℕ} (pp : p ≡ place_in (place st.settings.m st.settings.k t.p s (range y t.y t.q) b)) where
+      found-place : {r : ℕ} → p ≡ Some r → place st.settings.m st.settings.k (top st).p (offset st.settings.m (top st).p i) (range y (top st).y (top st).q) b ≡ some r
       found-place f =
           ap₂ (λ (z : Piece) (j : ℕ). place st.settings.m st.settings.k z.p j (range y z.y z.q) b) (sym tp) (sym offset-is)
           ∙ place-some (place st.settings.m st.settings.k t.p s (range y t.y t.q) b) pp f
 
-      no_place : p ≡ Nowhere → place st.settings.m st.settings.k (top st).p (offset st.settings.m (top st).p i) (range y (top st).y (top st).q) b ≡ none
+      no_place : p ≡ None → place st.settings.m st.settings.k (top st).p (offset st.settings.m (top st).p i) (range y (top st).y (top st).q) b ≡ none
       no_place f =
           ap₂ (λ (z : Piece) (j : ℕ). place st.settings.m st.settings.k z.p j (range y z.y z.q) b) (sym tp) (sym offset-is)
           ∙ place_none (place st.settings.m st.settings.k t.p s (range y t.y t.q) b) pp f
 
-      pub place-splits : {r : ℕ} → p ≡ At r → Splitting st s r
+      pub place-splits : {r : ℕ} → p ≡ Some r → Splitting st s r
       place-splits {r} f =
           let w = place-within st.settings.m st.settings.k (top st).p (offset st.settings.m (top st).p i) (range y (top st).y (top st).q) b r (found-place f) in
           let e = range_length y (top st).y (top st).q in
           record { attempt = i; stage = anchoring; at = offset-is; placed = omega arith }
 
-      pub place-small : {r : ℕ} → p ≡ At r → r < 4294967296
+      pub place-small : {r : ℕ} → p ≡ Some r → r < 4294967296
       place-small f = let g = place-splits f in let a = g.placed in let b = (topped st size capacity k).in_y in let c = (framed st size capacity k).copy in omega arith
 
-      pub anchor-placed : {r : ℕ} → p ≡ At r → step_of st y size (bits_answer b) ≡ effect_step st size (splits s r b)
+      pub anchor-placed : {r : ℕ} → p ≡ Some r → step_of st y size (bits_answer b) ≡ effect_step st size (splits s r b)
       anchor-placed {r} f =
           step-anchor st y size k.phase b i anchoring
           ∙ ap (λ (o : Option ℕ). effect_step st size (placed (offset st.settings.m (top st).p i) b (after_anchor i) o)) (found-place f)
           ∙ ap (λ (j : ℕ). effect_step st size (splits j r b)) (sym offset-is)
 
-      pub anchor-unplaced : p ≡ Nowhere → step_of st y size (bits_answer b) ≡ effect_step st size (stays (after_anchor i))
+      pub anchor-unplaced : p ≡ None → step_of st y size (bits_answer b) ≡ effect_step st size (stays (after_anchor i))
       anchor-unplaced f =
           step-anchor st y size k.phase b i anchoring
           ∙ ap (λ (o : Option ℕ). effect_step st size (placed (offset st.settings.m (top st).p i) b (after_anchor i) o)) (no_place f)

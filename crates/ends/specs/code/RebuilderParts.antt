@@ -1,5 +1,5 @@
 -- What the parts of the rebuilder's call give and require.
-use Rattle.std.specs.Prelude.{◌≡◌, Bool, true, cond, ◌⊎◌, List, [], ◌∷◌, ℕ, ◌+◌, ◌*◌, ◌≤◌, ◌<◌, length, eqb}
+use Rattle.std.specs.Prelude.{◌≡◌, Result as CodeResult, Ok, Err, Option as CodeOption, Some, None, Bool, true, cond, ◌⊎◌, List, [], ◌∷◌, ℕ, ◌+◌, ◌*◌, ◌≤◌, ◌<◌, length, eqb}
 use Rattle.std.proofs.Math.Option.{some}
 use Rattle.strings.specs.Results.{Result, and_then}
 use Rattle.strings.specs.Bits.{at_front, max_bits}
@@ -9,8 +9,8 @@ use Rattle.ends.specs.declared.How.TheVariants.{ByPutIn, ByTakeOut}
 use Rattle.ends.specs.Segments.{offset}
 use Rattle.strings.specs.declared.Refusal.{Refusal}
 use Rattle.messages.specs.declared.Question.{Question}
-use Rattle.messages.specs.declared.AnswerRead.{AnswerRead}
-use Rattle.messages.specs.declared.AnswerRead.TheVariants.{IsSize, IsHash, IsSyndrome, IsBits, NoAnswer, IsBurst}
+use Rattle.messages.specs.declared.Found.{Found}
+use Rattle.messages.specs.declared.Found.TheVariants.{IsSize, IsHash, IsSyndrome, IsBits, IsBurst}
 use Rattle.messages.specs.Questions.{question_kind, question_length, question_burst}
 use Rattle.messages.specs.Answers.{Answer, read_answer, said_answer, BitsThere}
 use Rattle.ends.specs.declared.Rebuilder.{Rebuilder}
@@ -21,8 +21,6 @@ use Rattle.ends.specs.States.{planned, top}
 use Rattle.ends.specs.Soundness.{sound}
 use Rattle.ends.specs.RebuilderCall.{Taken, takes, Step, written_question, Capacities, enough_for, step_of, awaits}
 use Rattle.ends.specs.RebuilderOutcome.{RebuilderSaid, leaves_rebuilder, capacities}
-use Rattle.ends.specs.declared.rebuilding.RebuilderAnswer.{RebuilderAnswer}
-use Rattle.ends.specs.declared.rebuilding.RebuilderAnswer.TheVariants.{Asks, Finished, Refused}
 use Rattle.ends.specs.declared.rebuilding.RebuilderOut.{RebuilderOut}
 use Rattle.ends.specs.declared.Stage.{Stage}
 use Rattle.ends.specs.declared.Stage.TheVariants.{Hashing, PuttingIn, TakingOut, Anchor, AllBits, Columns}
@@ -33,13 +31,13 @@ use Rattle.ends.specs.Anchors.{distance}
 
 -- ---- the parts of the call
 -- the next question's length, or the finish
-abbrev pub next_answer : List ℕ → RebuilderAnswer
-next_answer [] = Finished
-next_answer (b ∷ m) = Asks (length (b ∷ m))
+abbrev pub next_answer : List ℕ → CodeResult (CodeOption ℕ) Refusal
+next_answer [] = Ok None
+next_answer (b ∷ m) = Ok (Some (length (b ∷ m)))
 
 -- turned down
 abbrev pub turned_down : Refusal → Rebuilder → RebuilderOut
-turned_down e st = record { answer = Refused e; state = st; sheet = NoRow; answered = st.answered; counted = st.counted }
+turned_down e st = record { answer = Err e; state = st; sheet = NoRow; answered = st.answered; counted = st.counted }
 
 -- a step with the question that its state asks
 abbrev pub step_taken : Step → Result Taken
@@ -150,7 +148,7 @@ abbrev pub due_length : Rebuilder → ℕ
 due_length st = due_at st.phase st
 
 -- the question that waits, and what was read from the message as its answer
-pub record Due (st : Rebuilder) (msg : List ℕ) (len b : ℕ) (read : AnswerRead) : Type 0 where
+pub record Due (st : Rebuilder) (msg : List ℕ) (len b : ℕ) (found : Found) : Type 0 where
   pub sound-now : sound st ≡ true
   pub array : length st.pieces ≡ 32
   pub bytes : Bytes msg
@@ -158,24 +156,23 @@ pub record Due (st : Rebuilder) (msg : List ℕ) (len b : ℕ) (read : AnswerRea
   pub asked : planned st ≡ some question
   pub asked-length : len ≡ question_length question
   pub asked-burst : b ≡ question_burst question
-  pub read_is : said_answer msg len b read ≡ read_answer (question_kind question) (question_length question) (question_burst question) st.settings.h msg
-  pub bits-there : BitsThere msg len read
+  pub read_is : said_answer msg len b (Ok found) ≡ read_answer (question_kind question) (question_length question) (question_burst question) st.settings.h msg
+  pub bits-there : BitsThere msg len (Ok found)
 
--- whether the lent buffers are enough for the answer; a message that is no answer is turned down for that
-abbrev pub enough_for_answer : Rebuilder → Capacities → AnswerRead → Bool
+-- whether the lent buffers are enough for the answer
+abbrev pub enough_for_answer : Rebuilder → Capacities → Found → Bool
 enough_for_answer st capacities (IsSize n) = enough_for st n capacities
 enough_for_answer st capacities (IsHash v) = enough_for st st.n capacities
 enough_for_answer st capacities (IsSyndrome a v) = enough_for st st.n capacities
 enough_for_answer st capacities (IsBits at) = enough_for st st.n capacities
 enough_for_answer st capacities (IsBurst v) = enough_for st st.n capacities
-enough_for_answer st capacities (NoAnswer e) = true
 
 -- what comes of it in buffers that are long enough
-abbrev pub heard_step : Rebuilder → (y msg : List ℕ) → (len b : ℕ) → AnswerRead → Result Taken
-heard_step st y msg len b read = and_then (said_answer msg len b read) (λ a. step_taken (step_of st y (length msg) a))
+abbrev pub heard_step : Rebuilder → (y msg : List ℕ) → (len b : ℕ) → Found → Result Taken
+heard_step st y msg len b found = and_then (said_answer msg len b (Ok found)) (λ a. step_taken (step_of st y (length msg) a))
 
-abbrev pub heard_outcome : Rebuilder → (y msg : List ℕ) (len b : ℕ) → AnswerRead → (string question : List ℕ) → RebuilderSaid
-heard_outcome st y msg len b read string question = leaves_rebuilder st string question (heard_step st y msg len b read)
+abbrev pub heard_outcome : Rebuilder → (y msg : List ℕ) (len b : ℕ) → Found → (string question : List ℕ) → RebuilderSaid
+heard_outcome st y msg len b found string question = leaves_rebuilder st string question (heard_step st y msg len b found)
 
 -- what a message for the question q that waits leaves
 abbrev pub asked_outcome : Rebuilder → (y msg : List ℕ) (rows : ℕ) → Question → (string question : List ℕ) → RebuilderSaid

@@ -1,5 +1,5 @@
 -- What the functions of src/state.rt require, and laws for their proofs.
-use Rattle.std.specs.Prelude.{◌≡◌, cond, true, false, ℕ, ◌+◌, ◌-◌, ◌*◌, ◌≤◌, ◌<◌, set, eqb}
+use Rattle.std.specs.Prelude.{◌≡◌, Option as CodeOption, Some, None, cond, true, false, ℕ, ◌+◌, ◌-◌, ◌*◌, ◌≤◌, ◌<◌, set, eqb}
 use Rattle.std.proofs.Math.Path.{refl}
 use Rattle.std.proofs.Common.{sym, ap, ◌∙◌, le_refl, arith}
 use Rattle.std.proofs.Math.Option.{Option, none, some}
@@ -9,8 +9,6 @@ use Rattle.strings.specs.declared.settings.Settings.{Settings}
 use Rattle.ends.specs.declared.Piece.{Piece}
 use Rattle.ends.specs.declared.Rebuilder.{Rebuilder}
 use Rattle.ends.specs.States.{top, stacked, popped, pushed, restaged, split_at, left_piece, right_piece, planned_at, planned}
-use Rattle.ends.specs.declared.state.Plan.{Plan}
-use Rattle.ends.specs.declared.state.Plan.TheVariants.{Ask, Finished}
 use Rattle.ends.specs.declared.Stage.{Stage}
 use Rattle.ends.specs.declared.Stage.TheVariants.{Anchor, Hashing, PuttingIn, TakingOut, Columns}
 use Rattle.ends.specs.declared.Attempt.{Attempt}
@@ -22,9 +20,9 @@ use borrow.Author.Tests.{eq-eqb, ne_eqb}
 use Rattle.ends.specs.declared.Phase.{Phase}
 
 -- a planned question as the code hands it on
-abbrev pub plan_of : Option Question → Plan
-plan_of none = Finished
-plan_of (some q) = Ask q
+abbrev pub plan_of : Option Question → CodeOption Question
+plan_of none = None
+plan_of (some q) = Some q
 
 -- ---- what is required
 -- settings of which 4(m + h) can be computed
@@ -137,6 +135,6 @@ module _ (S : Settings) (p q a b : ℕ) (e : a ≡ p) (f : b ≡ q) where
   stage-far h k l i d = rw (ne_eqb q p (λ z. h (omega arith)), ne_eqb (q + 1) p (λ z. k (omega arith)), ne_eqb q (p + 1) (λ z. l (omega arith)), i) d
 
 -- ---- the question, by what is awaited
-pub plan-at : (st : Rebuilder) (ph : Phase) → st.phase ≡ ph → {r : Plan} → r ≡ plan_of (planned_at ph st) → r ≡ plan_of (planned st)
+pub plan-at : (st : Rebuilder) (ph : Phase) → st.phase ≡ ph → {r : CodeOption Question} → r ≡ plan_of (planned_at ph st) → r ≡ plan_of (planned st)
 unfolding planned
 plan-at st ph e f = f ∙ ap (λ (p : Phase). plan_of (planned_at p st)) (sym e)

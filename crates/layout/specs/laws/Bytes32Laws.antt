@@ -1,29 +1,17 @@
 -- What was written is read back.
-use Rattle.std.specs.Prelude.{◌≡◌, List, ◌++◌, ℕ, suc, ◌+◌, ◌*◌, ◌/◌, ◌%◌, ◌≤◌, ◌<◌, length, get_or, set}
+use Rattle.std.specs.Prelude.{◌≡◌, List, ◌++◌, ℕ, ◌+◌, ◌*◌, ◌/◌, ◌%◌, ◌≤◌, ◌<◌, length, suc, get_or, set}
 use Rattle.std.proofs.Math.Path.{refl}
-use Rattle.std.proofs.Common.{sym, ap, ◌∙◌, mod-eq_of_lt, arith, get_or-append-add}
-use Rattle.std.proofs.Math.Nat.{add_assoc, div-div-eq-div-mul}
+use Rattle.std.proofs.Common.{arith, get_or-append-add}
+use Rattle.std.proofs.Math.Nat.{add_assoc}
 use Rattle.std.proofs.lemmas.List.Edits.{sets}
+use Rattle.std.proofs.lemmas.Nat.{from_le_bytes-to_le_bytes_4}
 use Rattle.strings.specs.Bits.{Bytes}
-use Rattle.layout.specs.Bytes32.{bytes_of, word_at}
+use Rattle.layout.specs.Bytes32.{word_at, bytes_of}
 use Rattle.strings.specs.laws.StoreLaws.{get_d_sets_before, get_d-sets-behind, get_d-sets-in}
 
 -- a number's digits to base 256
 pub digits : (v : ℕ) → v < 4294967296 → v % 256 + 256 * (v / 256 % 256) + 65536 * (v / 65536 % 256) + 16777216 * (v / 16777216 % 256) ≡ v
-digits v h =
-    let two : v / 65536 ≡ v / 256 / 256 = sym (div-div-eq-div-mul v 256 256) in
-    let three : v / 16777216 ≡ v / 65536 / 256 = sym (div-div-eq-div-mul v 65536 256) in
-    sums v (v / 256) (v / 65536) (v / 16777216) (v % 256) (v / 256 % 256) (v / 65536 % 256) (v / 16777216 % 256)
-    (omega arith)
-    (ap (λ (x : ℕ). v / 256 % 256 + 256 * x) two ∙ quotient (v / 256))
-    (ap (λ (x : ℕ). v / 65536 % 256 + 256 * x) three ∙ quotient (v / 65536))
-    (mod-eq_of_lt (let e : v / 16777216 < 256 = omega arith in e))
-  where
-    quotient : (x : ℕ) → x % 256 + 256 * (x / 256) ≡ x
-    quotient x = omega arith
-
-    sums : (v a b c q r s t : ℕ) → q + 256 * a ≡ v → r + 256 * b ≡ a → s + 256 * c ≡ b → t ≡ c → q + 256 * r + 65536 * s + 16777216 * t ≡ v
-    sums v a b c q r s t e f g h = omega arith
+digits v h = omega (arith, from_le_bytes-to_le_bytes_4 v h)
 
 -- behind a list, offsets count on
 pub number_behind : (p l : List ℕ) (i : ℕ) → word_at (p ++ l) (length p + i) ≡ word_at l i

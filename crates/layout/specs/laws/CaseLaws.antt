@@ -1,6 +1,7 @@
 -- Laws of the cases' numbers: each is small and is read as its case.
-use Rattle.std.specs.Prelude.{◌≡◌, refl, Bool, true, false, ℕ, ◌≤◌}
-use Rattle.std.proofs.Common.{sym, arith, ne_eqb}
+use Rattle.std.specs.Prelude.{◌≡◌, refl, Bool, true, false, ◌≤◌, ℕ}
+use Rattle.std.specs.Int.{from_bool}
+use Rattle.std.proofs.Common.{arith, sym, ne_eqb}
 use Rattle.ends.specs.declared.Attempt.TheVariants.{First, Second, Third}
 use Rattle.ends.specs.declared.Phase.{Phase}
 use Rattle.ends.specs.declared.Phase.TheVariants.{AtOpening, AtPieces, AtWhole}
@@ -51,6 +52,10 @@ stage-back Columns = refl
 -- ---- for the code
 pub phase-known : (v : ℕ) (p : Phase) → v ≡ phase_number p → p ≡ phase_of v
 phase-known v p e = rw e (sym (phase-back p))
+
+pub opened-converted : (b : Bool) → from_bool b ≡ opened_number b
+opened-converted false = refl
+opened-converted true = refl
 
 pub phase-last : (v : ℕ) → (v ≡ 0 → ⊥) → (v ≡ 1 → ⊥) → AtWhole ≡ phase_of v
 unfolding phase_of

@@ -1,9 +1,7 @@
 -- Lengths of the layouts; a state's bytes pass the test of states, and reading them gives the state.
-use Rattle.std.specs.Prelude.{◌≡◌, refl, Bool, true, false, List, [], ◌∷◌, ◌++◌, ℕ, zero, suc, ◌+◌, ◌-◌, ◌*◌, ◌≤◌, ◌<◌, length, get_or, set, take, drop, replicate, leb}
-use Rattle.std.proofs.Common.{sym, ap, ap₂, ◌∙◌, append_assoc, append-nil, add-zero, arith, add-one, length-append, drop-cons, take_all, le-leb, leb-true}
-use Rattle.std.proofs.lemmas.List.{length-replicate}
+use Rattle.std.specs.Prelude.{◌≡◌, refl, Bool, true, List, [], ◌∷◌, ◌++◌, ℕ, zero, suc, ◌+◌, ◌*◌, ◌≤◌, ◌<◌, length, get_or, take, drop, leb, false, ◌-◌, set, replicate}
+use Rattle.std.proofs.Common.{sym, ap, ap₂, ◌∙◌, append_assoc, append-nil, add-zero, arith, length-append, drop-cons, take_all, le-leb, leb-true, add-one}
 use Rattle.std.proofs.lemmas.List.Edits.{sets}
-use Rattle.std.proofs.lemmas.Bool.{lt-leb}
 use Rattle.strings.specs.declared.settings.Settings.{Settings}
 use Rattle.ends.specs.declared.Holder.{Holder}
 use Rattle.ends.specs.declared.Piece.{Piece}
@@ -18,6 +16,8 @@ use Rattle.strings.specs.Bits.{Bytes}
 use Rattle.strings.specs.laws.Tests.{and_left, and-true}
 use Rattle.layout.specs.laws.Bytes32Laws.{digits, number_behind, number-below}
 use Rattle.layout.specs.laws.CaseLaws.{opened-most, opened-back, phase-most, phase-back, stage-most, stage-back}
+use Rattle.std.proofs.lemmas.List.{length-replicate}
+use Rattle.std.proofs.lemmas.Bool.{lt-leb}
 
 -- ---- lengths
 pub length-holder : (st : Holder) → length (holder_bytes st) ≡ holder_size
@@ -237,7 +237,7 @@ unfolding is_rebuilder
 rebuilder-long s e = leb-true rebuilder_size (length s) (and_left (leb rebuilder_size (length s)) _ e)
 
 -- ---- for the code
--- the tests, as the code makes them
+-- the tests
 pub holder-short : (s : List ℕ) → length s < holder_size → false ≡ is_holder s
 unfolding is_holder
 holder-short s h = rw (lt-leb holder_size (length s) h) refl
@@ -367,6 +367,12 @@ fields-stored s t u v w st p q i j e f g h =
     ∙ ap₂ (λ (x y : ℕ). sets s 0 (all_bytes (
     st.settings.m ∷ st.settings.h ∷ st.settings.k ∷ st.settings.key ∷ st.settings.ceiling ∷
     st.ybits ∷ x ∷ st.n ∷ st.answered ∷ st.counted ∷ st.rows ∷ y ∷ st.waiting ∷ []))) i j
+
+-- the same with all five numbers stored at once
+pub holder-stored-whole : (s t : List ℕ) (st : Holder) (o : ℕ) → holder_size ≤ length s → o ≡ opened_number st.opened
+    → t ≡ sets s 0 (all_bytes (o ∷ st.bits ∷ st.h ∷ st.key ∷ st.answers ∷ [])) → t ≡ holder_bytes st ++ drop holder_size s
+unfolding holder_bytes
+holder-stored-whole s t st o h e f = f ∙ ap (λ (v : ℕ). sets s 0 (all_bytes (v ∷ st.bits ∷ st.h ∷ st.key ∷ st.answers ∷ []))) e ∙ holder-front s st h
 
 pub rebuilder-stored : (s t u : List ℕ) (st : Rebuilder) → rebuilder_size ≤ length s → t ≡ sets s 0 (head_bytes st) → u ≡ sets t 52 (pieces_bytes st.pieces 0 32)
     → u ≡ rebuilder_bytes st ++ drop rebuilder_size s

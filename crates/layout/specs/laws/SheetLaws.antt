@@ -16,9 +16,9 @@ use Rattle.layout.specs.Bytes32.{bytes_of, word_at}
 use Rattle.layout.specs.Layout.{all_bytes}
 use Rattle.layout.specs.Sheet.{row_size, row_bytes, rows_bytes, row_at, rows_at, rows_in, sheet_bytes_after}
 use Rattle.strings.specs.laws.StoreLaws.{sets-append}
-use Rattle.strings.proofs.laws.PackLaws.{cleared-sets}
 use Rattle.layout.specs.laws.Bytes32Laws.{digits, number-before, number-after, number_in}
 use Rattle.layout.specs.laws.LayoutLaws.{store-next}
+use Rattle.strings.proofs.laws.PackLaws.{cleared-sets}
 
 -- ---- lengths
 pub length-row : (r : Row) → length (row_bytes r) ≡ row_size

@@ -1,15 +1,9 @@
-use mathlib.Core.Path.{refl, ◌∙◌}
-use Rattle.lines.specs.laws.StringLaws.{bits-other, bits-next, bits-last}
+use Rattle.std.proofs.Common.{rules, tests, ◌∙◌}
+use Rattle.std.proofs.lemmas.Iterator.{YieldsList-from_slice}
+use Rattle.std.proofs.lemmas.Iterator.Search.{all_from_yields_List}
+use Rattle.lines.specs.StringLine.{is_bit}
+use Rattle.lines.specs.laws.StringLaws.{bits_all}
 use Rattle.lines.proofs.only_bits.Goals as goal
 
-pub loop-i-init : goal.loop-i-init
-loop-i-init c = refl
-
-pub returns-then-not-is_bit : goal.returns-then-not-is_bit
-returns-then-not-is_bit c = bits-other c.args.s.now c.loop-i.i c.loop-i-test.true c.is_bit.ensures (c.if-not-is_bit.true) ∙ c.loop-i.invariant
-
-pub loop-i-preserved : goal.loop-i-preserved
-loop-i-preserved c = bits-next c.args.s.now c.loop-i.i c.loop-i-test.true c.is_bit.ensures (c.if-not-is_bit.false) ∙ c.loop-i.invariant
-
 pub returns : goal.returns
-returns c = bits-last c.args.s.now c.loop-i.i c.loop-i-test.false ∙ c.loop-i.invariant
+returns c = all_from_yields_List is_bit _ _ c.all.result c.all.ensures.ran (YieldsList-from_slice c.args.s.now c.iter.ensures.rest) (λ x b q k. search (rules, tests)) ∙ bits_all c.args.s.now

@@ -1,17 +1,20 @@
 -- Laws of what is printed, as the code meets them.
-use Rattle.std.specs.Prelude.{◌≡◌, refl, Bool, true, false, cond, length, get_or, set, drop, ltb}
-use Rattle.std.proofs.Common.{sym, ◌∙◌, zero-add, pow-suc, length-append, drop_of_length-le, lt-ltb, le-ltb}
+use Rattle.std.specs.Prelude.{◌≡◌, refl, Bool, true, false, cond, length, get_or, set, take, drop, ltb}
+use Rattle.std.proofs.Common.{sym, ◌∙◌, zero-add, pow-suc, append_assoc, length-append, lt-ltb, le-ltb, lit<, drop_of_length-le}
 use Rattle.std.proofs.Math.Path.{ap}
 use mathlib.Core.List.{List, [], ◌∷◌, ◌++◌}
-use Prim.Native.Nat.{ℕ, zero, suc, ◌+◌, ◌-◌, ◌*◌, ◌/◌, ◌%◌, ◌^◌, ◌≤◌, ◌<◌}
-use Rattle.std.proofs.Math.Numerals.{add-one}
+use Prim.Native.Nat.{ℕ, zero, suc, ◌+◌, ◌*◌, ◌/◌, ◌%◌, ◌^◌, ◌≤◌, ◌<◌, ◌-◌}
 use native.Mathlib.Omega.{arith}
-use Rattle.std.proofs.Math.Seq.{sets, drop-cons}
-use Rattle.strings.specs.Bits.{bit_at, range}
-use Rattle.strings.proofs.laws.RangeLaws.{rest, rest-is, rest-last, range_length}
+use Rattle.std.proofs.lemmas.List.{take_more, take_at, length-take}
+use Rattle.std.proofs.lemmas.List.Edits.{sets-eq}
 use Rattle.strings.specs.laws.StoreLaws.{sets-append}
+use Rattle.std.proofs.lemmas.Grind.{common_steps}
+use Rattle.strings.specs.Bits.{bit_at, range}
+use Rattle.strings.proofs.laws.RangeLaws.{range_length, range-add, range-step, range_none, rest, rest-is, rest-last}
 use Rattle.lines.specs.Fields.{newline_byte, blank_byte}
 use Rattle.lines.specs.Printing.{Puts, hex_digit, hex_of, digits_in, decimal, bit_byte, bit_bytes, message_line, row_line, last_line, refusal_line}
+use Rattle.std.proofs.Math.Numerals.{add-one}
+use Rattle.std.proofs.Math.Seq.{sets, drop-cons}
 
 -- bytes written one behind the other
 pub puts-next : {buf l t m u : List ℕ} {at i j : ℕ} → Puts buf at l t i → Puts t i m u j → Puts buf at (l ++ m) u j
@@ -20,6 +23,14 @@ puts-next {buf} {l} {t} {m} {u} {at} {i} {j} p q =
       ends = (let n = length-append l m in let a = p.ends in let b = q.ends in omega arith);
       holds = q.holds ∙ rw (p.ends, p.holds) (sym (sets-append buf l m at));
     }
+
+-- bytes written behind the first `at` of a buffer
+pub puts_behind : {buf bytes after : List ℕ} {at end : ℕ} → Puts buf at bytes after end → at + length bytes ≤ length buf → take end after ≡ take at buf ++ bytes
+puts_behind {buf} {bytes} {after} {at} {end} p h =
+    rw (p.ends, p.holds, sets-eq bytes buf at h) (take_at (take at buf ++ bytes) (drop (at + length bytes) buf) (at + length bytes) long)
+  where
+    long : length (take at buf ++ bytes) ≡ at + length bytes
+    long = let a = length-append (take at buf) bytes in let b = length-take at buf in omega arith
 
 -- ---- hexadecimal
 pub hex-low : (d : ℕ) → d < 10 → 48 + d ≡ hex_digit d
@@ -48,6 +59,19 @@ module _ (s t u : List ℕ) (i j : ℕ) (so : sets t j (hex_of (drop i s)) ≡ u
 
 pub hex-whole : (s buf t : List ℕ) (at j : ℕ) → j ≡ at + 2 * length s → t ≡ sets buf at (hex_of s) → Puts buf at (hex_of s) t j
 hex-whole s buf t at j e f = record { ends = (let n = length-hex s in omega arith); holds = f }
+
+pub hex_none : hex_of [] ≡ []
+unfolding hex_of
+hex_none = refl
+
+hex_push : (l : List ℕ) (x : ℕ) → hex_of (l ++ x ∷ []) ≡ (hex_of l ++ hex_digit (x / 16) ∷ []) ++ hex_digit (x % 16) ∷ []
+unfolding hex_of
+hex_push [] x = refl
+hex_push (y ∷ l) x = ap (λ (t : List ℕ). hex_digit (y / 16) ∷ hex_digit (y % 16) ∷ t) (hex_push l x)
+
+-- one more byte
+pub hex_more : (s : List ℕ) (i : ℕ) → i < length s → hex_of (take (i + 1) s) ≡ (hex_of (take i s) ++ hex_digit (get_or s i 0 / 16) ∷ []) ++ hex_digit (get_or s i 0 % 16) ∷ []
+hex_more s i h = ap hex_of (take_more s i 0 h) ∙ hex_push (take i s) (get_or s i 0)
 
 -- ---- decimal
 pub length_digits : (k v : ℕ) → length (digits_in k v) ≤ suc k
@@ -100,6 +124,9 @@ decimal-more buf t at j v h k p =
     let e = decimal-high v h k in
     rw e (puts-next p (record { ends = refl; holds = refl }))
 
+-- the writing of a number, digit by digit
+pub ruleset decimal_steps = (length-low, length_high, decimal-one, decimal-more)
+
 -- ---- bits
 length-bytes : (l : List Bool) → length (bit_bytes l) ≡ length l
 unfolding bit_bytes
@@ -126,6 +153,25 @@ text-whole s buf t n at f =
       ends = (let l = length-text s n in omega arith);
       holds = f;
     }
+
+pub text_none : (s : List ℕ) → bit_bytes (range s 0 0) ≡ []
+unfolding bit_bytes
+text_none s = rw range_none refl
+
+bytes_push : (l : List Bool) (b : Bool) → bit_bytes (l ++ b ∷ []) ≡ bit_bytes l ++ bit_byte b ∷ []
+unfolding bit_bytes
+bytes_push [] b = refl
+bytes_push (c ∷ l) b = ap (λ (t : List ℕ). bit_byte c ∷ t) (bytes_push l b)
+
+-- one more bit
+pub text_more : (s : List ℕ) (i : ℕ) → bit_bytes (range s 0 (i + 1)) ≡ bit_bytes (range s 0 i) ++ bit_byte (bit_at s i) ∷ []
+text_more s i = ap bit_bytes (range-add s 0 i 1 ∙ one) ∙ bytes_push (range s 0 i) (bit_at s i)
+  where
+    one : range s 0 i ++ range s (0 + i) 1 ≡ range s 0 i ++ bit_at s i ∷ []
+    one = rw (zero-add, range-step s i 1 (lit< tt), range_none) refl
+
+-- what the goals of a line's parts need: how long each part is, how it begins and goes on, and that parts are put one behind the other
+pub ruleset line_steps = (common_steps, append_assoc, length-append, length-hex, hex_none, hex_more, length-text, text_none, text_more, length-decimal)
 
 -- ---- how long the lines are
 pub length-message-line : (letter : ℕ) (message : List ℕ) → length (message_line letter message) ≡ 3 + 2 * length message

@@ -1,19 +1,15 @@
 -- Laws of decimal numbers and of the settings line, as the code meets them.
-use Rattle.std.specs.Prelude.{◌≡◌, Bool, ◌&&◌, List, [], ◌∷◌, ◌++◌, ℕ, zero, suc, ◌+◌, ◌-◌, ◌*◌, ◌≤◌, ◌<◌, length, get_or, drop, leb, ltb}
+use Rattle.std.specs.Prelude.{◌≡◌, Bool, ◌&&◌, List, [], ◌∷◌, ℕ, ◌+◌, ◌-◌, ◌*◌, ◌≤◌, ◌<◌, length, get_or, drop, ltb, ◌++◌, zero, suc, leb, Option as CodeOption, Some, None}
 use Rattle.std.proofs.Math.Path.{refl}
+use Rattle.std.specs.Char.{is_ascii_digit}
 use Rattle.std.proofs.Common.{◌∙◌, add-one, arith, drop_of_length-le, drop-cons}
 use Rattle.std.proofs.Math.Bool.{true, false, cond}
-use Rattle.std.proofs.Math.Option.{Option, none, some, bind}
+use Rattle.std.proofs.Math.Option.{Option, none, some, map, bind}
 use borrow.Author.Tests.{lt-ltb, le-ltb, lt-leb, le-leb}
+use Rattle.lines.specs.Fields.{blank_byte, field, bytes_between, field_text, absent, newline_byte}
+use Rattle.lines.specs.SettingsLine.{is_digit, all_digits, value_from, decimal_of, group_of, setting_at, five_groups, longest_line, settings_of, settings_in, said_settings}
 use Rattle.strings.specs.declared.settings.Settings.{Settings}
 use Rattle.strings.specs.Results.{Result, value, and_then}
-use Rattle.lines.specs.declared.FieldFound.{FieldFound}
-use Rattle.lines.specs.declared.FieldFound.TheVariants.{Spans, Missing}
-use Rattle.lines.specs.declared.Decimal.{Decimal}
-use Rattle.lines.specs.declared.Decimal.TheVariants.{Value, NotDecimal}
-use Rattle.lines.specs.declared.SettingsRead.TheVariants.{Malformed}
-use Rattle.lines.specs.Fields.{newline_byte, blank_byte, field, bytes_between}
-use Rattle.lines.specs.SettingsLine.{is_digit, all_digits, value_from, decimal_of, group_of, setting_at, five_groups, longest_line, settings_of, settings_in, said_settings}
 use Rattle.lines.specs.code.Readings.{said_field, said_decimal}
 
 pub digit_low : (x : ℕ) → x < 48 → false ≡ is_digit x
@@ -65,35 +61,80 @@ module _ (s : List ℕ) (v i : ℕ) (r : Option ℕ) (so : decimal_rest v (drop 
   unfolding decimal_rest all_digits value_from
   decimal-last h k = (rw (drop_of_length-le s {i = i} h, lt-ltb v 4294967296 k) refl) ∙ so
 
+-- the same for a loop that goes on with what is left
+pub decimal-empty : (s : List ℕ) → length s ≡ 0 → decimal_of s ≡ none
+unfolding decimal_of
+decimal-empty s h = rw h refl
+
+pub rest-other : (v : ℕ) (s : List ℕ) (i : ℕ) → i < length s → is_ascii_digit (get_or s i 0) ≡ false → decimal_rest v (drop i s) ≡ none
+unfolding decimal_rest all_digits is_digit
+rest-other v s i h e = rw (drop-cons s i 0 h, e) refl
+
+pub rest-next : (v : ℕ) (s : List ℕ) (i : ℕ) → i < length s → is_ascii_digit (get_or s i 0) ≡ true → decimal_rest v (drop i s) ≡ decimal_rest (v * 10 + (get_or s i 0 - 48)) (drop (i + 1) s)
+unfolding decimal_rest all_digits value_from is_digit
+rest-next v s i h e = rw (drop-cons s i 0 h, e, add-one) refl
+
+pub rest-large : (v : ℕ) (l : List ℕ) → 4294967296 ≤ v → decimal_rest v l ≡ none
+unfolding decimal_rest
+rest-large v l h = let g = value_grows v l in rw (le-ltb (value_from v l) 4294967296 (omega arith)) (go (all_digits l))
+  where
+    go : (t : Bool) → cond (t && false) (some (value_from v l)) none ≡ none
+    go true = refl
+    go false = refl
+
+pub rest-last : (v : ℕ) (s : List ℕ) (i : ℕ) → length s ≤ i → v < 4294967296 → decimal_rest v (drop i s) ≡ some v
+unfolding decimal_rest all_digits value_from
+rest-last v s i h k = rw (drop_of_length-le s {i = i} h, lt-ltb v 4294967296 k) refl
+
+-- the reading of a decimal number, digit by digit
+pub ruleset decimal_steps = (decimal-empty, decimal-first, rest-other, rest-next, rest-large, rest-last)
+
 -- ---- groups and lines: r is the field found
-module _ (line : List ℕ) (i : ℕ) {r : FieldFound} (p : said_field r ≡ field blank_byte i line) where
-  pub group-missing : r ≡ Missing → none ≡ group_of line i
+module _ (line : List ℕ) (i : ℕ) {r : CodeOption (ℕ × ℕ)} (p : said_field r ≡ field blank_byte i line) where
+  pub group-missing : r ≡ None → none ≡ group_of line i
   unfolding group_of bind
   group-missing q = rw (← p, q) refl
 
-  pub group-found : (a b : ℕ) → r ≡ Spans a b → decimal_of (bytes_between a b line) ≡ group_of line i
+  pub group-found : (a b : ℕ) → r ≡ Some (a, b) → decimal_of (bytes_between a b line) ≡ group_of line i
   unfolding group_of bind
   group-found a b q = rw (← p, q) refl
 
-pub settings-long : (line : List ℕ) → longest_line < length line → said_settings Malformed ≡ settings_of line
+-- what a group of the line says, from the bytes of the field that was found
+module _ (line : List ℕ) (i : ℕ) where
+  pub group-absent : none ≡ field_text blank_byte i line → none ≡ group_of line i
+  unfolding group_of bind
+  group-absent p = rw (← p) refl
+
+  pub group-text : (text : List ℕ) → some text ≡ field_text blank_byte i line → decimal_of text ≡ group_of line i
+  unfolding group_of bind
+  group-text text p = rw (← p) refl
+
+-- whether there is a field is told by its bytes
+pub absent-text : (sep i : ℕ) (s : List ℕ) → absent (field_text sep i s) ≡ absent (field sep i s)
+absent-text sep i s = elim (field sep i s) as (λ f. absent (map (λ (place : ℕ × ℕ). bytes_between place.0 place.1 s) f) ≡ absent f) [ none ↦ refl | some place ↦ refl ]
+
+-- the tests of the settings line
+pub ruleset settings_steps = (absent-text, lt-leb, le-leb)
+
+pub settings-long : (line : List ℕ) → longest_line < length line → said_settings None ≡ settings_of line
 unfolding settings_of
 settings-long line h = rw (lt-leb (length line) longest_line h) refl
 
-module _ (line : List ℕ) (few : length line ≤ longest_line) {r : FieldFound} (p : said_field r ≡ field blank_byte 5 line) where
-  pub settings-more : (a b : ℕ) → r ≡ Spans a b → said_settings Malformed ≡ settings_of line
+module _ (line : List ℕ) (few : length line ≤ longest_line) {r : CodeOption (ℕ × ℕ)} (p : said_field r ≡ field blank_byte 5 line) where
+  pub settings-more : (a b : ℕ) → r ≡ Some (a, b) → said_settings None ≡ settings_of line
   unfolding settings_of
   settings-more a b q = rw (le-leb (length line) longest_line few, ← p, q) refl
 
-  pub settings-five : r ≡ Missing → five_groups line ≡ settings_of line
+  pub settings-five : r ≡ None → five_groups line ≡ settings_of line
   unfolding settings_of
   settings-five q = rw (le-leb (length line) longest_line few, ← p, q) refl
 
-module _ (input : List ℕ) {r : FieldFound} (p : said_field r ≡ field newline_byte 0 input) where
-  pub settings-missing : r ≡ Missing → said_settings Malformed ≡ settings_in input
+module _ (input : List ℕ) {r : CodeOption (ℕ × ℕ)} (p : said_field r ≡ field newline_byte 0 input) where
+  pub settings-missing : r ≡ None → said_settings None ≡ settings_in input
   unfolding settings_in
   settings-missing q = rw (← p, q) refl
 
-  pub settings-found : (a b : ℕ) → r ≡ Spans a b → settings_of (bytes_between a b input) ≡ settings_in input
+  pub settings-found : (a b : ℕ) → r ≡ Some (a, b) → settings_of (bytes_between a b input) ≡ settings_in input
   unfolding settings_in
   settings-found a b q = rw (← p, q) refl
 
@@ -117,9 +158,9 @@ abbrev pub no-group-read : List ℕ → Groups 5
 no-group-read line = record { line = line; numbers = []; so = none_yet line }
 
 -- r is what the next group was read as
-module _ {n : ℕ} (g : Groups (suc n)) {r : Decimal} (p : said_decimal r ≡ group_of g.line (length g.numbers)) where
-  pub group-none : r ≡ NotDecimal → said_settings Malformed ≡ five_groups g.line
+module _ {n : ℕ} (g : Groups (suc n)) {r : CodeOption ℕ} (p : said_decimal r ≡ group_of g.line (length g.numbers)) where
+  pub group-none : r ≡ None → said_settings None ≡ five_groups g.line
   group-none q = (rw (← p, q) refl) ∙ g.so
 
-  abbrev pub group-read : {v : ℕ} → r ≡ Value v → Groups n
+  abbrev pub group-read : {v : ℕ} → r ≡ Some v → Groups n
   group-read {v} q = record { line = g.line; numbers = g.numbers ++ (v ∷ []); so = (rw (← p, q) refl) ∙ g.so }

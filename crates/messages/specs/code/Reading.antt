@@ -1,37 +1,138 @@
--- The terms of the reader's contracts: how far it has got, readings one behind the other, and readings put together.
-use Rattle.std.specs.Prelude.{◌≡◌, Bool, true, false, ◌&&◌, length, get_or, set, drop, leb, ltb}
+-- The terms of the reader's contracts, and what the loops over numbers keep.
+use Rattle.std.specs.Prelude.{◌≡◌, Result as CodeResult, Ok, Err, Bool, true, false, ◌&&◌, length, get_or, set, drop, leb, ltb, eqb}
 use Rattle.std.proofs.Math.Path.{refl, sym, ap, ap₂}
-use Rattle.std.proofs.Common.{◌∙◌, add-one, length-append, drop_of_length-le, drop-cons, get_or-take, length-take-le, take-suc-set, le-leb}
+use Rattle.std.proofs.Common.{◌∙◌, add-one, length-append, drop_of_length-le, drop-cons, take-suc-set, take_all, le-leb, get_or-take, length-take-le}
 use mathlib.Core.List.{List, [], ◌∷◌, ◌++◌, append-nil, append_assoc}
 use Prim.Native.Nat.{ℕ, suc, ◌+◌, ◌-◌, ◌^◌, ◌≤◌, ◌<◌}
 use native.Mathlib.Omega.{arith}
 use Rattle.std.proofs.Math.ListN.{take}
 use Rattle.std.proofs.lemmas.List.Edits.{sets}
 use Rattle.std.proofs.lemmas.Bool.{lt-leb}
+use Rattle.strings.specs.Bits.{max_bits}
+use Rattle.strings.specs.SettingLimits.{hash_limits, key_limits}
 use Rattle.strings.specs.Refusals.{refusal_number}
-use Rattle.strings.specs.Results.{Result, refusal, value, unless, and_then}
+use Rattle.strings.specs.Results.{Result, refusal, value, unless, and_then, said}
 use Rattle.strings.specs.laws.StoreLaws.{sets-append}
 use Rattle.strings.specs.laws.ResultLaws.{no_value, value-is}
 use Rattle.strings.specs.declared.Refusal.{Refusal}
-use Rattle.strings.specs.declared.Refusal.TheVariants.{TrailingBytes, OutOfRange}
-use Rattle.codes.specs.Columns.{column_length}
-use Rattle.messages.specs.declared.numbers.NumberRead.{NumberRead}
-use Rattle.messages.specs.declared.numbers.NumberRead.TheVariants.{Value, NoNumber}
-use Rattle.messages.specs.declared.reading.Readings.{Readings}
-use Rattle.messages.specs.Numbers.{number, number_at, said_number, two_at, three_at, all_numbers, numbers_at}
-use Rattle.messages.specs.Answers.{Answer, burst_answer, within_columns, burst_at, burst_syndromes, BurstAnswered}
+use Rattle.strings.specs.declared.Refusal.TheVariants.{TrailingBytes, OutOfRange, BadBurst}
+use Rattle.codes.specs.Columns.{column_length, column_limits}
+use Rattle.messages.specs.declared.Question.{Question}
+use Rattle.messages.specs.declared.Question.TheVariants.{AskOpen, AskBurst}
+use Rattle.messages.specs.Numbers.{number, number_at, two_at, three_at, all_numbers, numbers_at}
+use Rattle.messages.specs.Questions.{opening_at, range_question, burst_range_at}
+use Rattle.messages.specs.Answers.{Answer, size_answer, hash_answer, syndrome_answer, burst_answer, size_at, hash_at, syndrome_at, within_columns, burst_at, burst_syndromes, BurstAnswered}
+use Rattle.messages.specs.laws.NumberLaws.{size-most}
 use Rattle.messages.specs.laws.AnswerLaws.{burst-stands, burst-is}
 
--- behind the number that was read at position at; still there where none was read
-abbrev pub behind_number : NumberRead → ℕ → ℕ
-behind_number (Value v end) at = end
-behind_number (NoNumber e) at = at
+-- what a reader that stands at position at now says that it read, a number or numbers
+abbrev pub said_next : CodeResult ℕ Refusal → ℕ → Result (ℕ × ℕ)
+said_next (Ok v) at = value (v, at)
+said_next (Err e) at = refusal (refusal_number e)
 
--- r is what stands in the message s from position at on, each reading behind the one before
-pub record OneBehindTheOther (s : List ℕ) (at : ℕ) (r : Readings) : Type 0 where
-  pub first_read : said_number r.first ≡ number_at s at
-  pub second-read : said_number r.second ≡ number_at s (behind_number r.first at)
-  pub third-read : said_number r.third ≡ number_at s (behind_number r.second (behind_number r.first at))
+abbrev pub said_numbers : CodeResult (Unit {0}) Refusal → List ℕ → ℕ → Result (List ℕ × ℕ)
+said_numbers (Ok _) l at = value (l, at)
+said_numbers (Err e) l at = refusal (refusal_number e)
+
+-- the number at position at, behind which nothing may follow
+abbrev pub last_at : List ℕ → ℕ → Result ℕ
+last_at s at =
+    and_then (number_at s at) (λ (v, end).
+    unless (leb (length s) end) TrailingBytes (
+    value v))
+
+-- the fields of a question, which nothing follows
+abbrev pub opening_of : ℕ → ℕ → ℕ → Result Question
+opening_of version h key =
+    unless (eqb version 1) OutOfRange (
+    unless (hash_limits h) OutOfRange (
+    unless (key_limits key) OutOfRange (
+    value (AskOpen h key))))
+
+abbrev pub range_of : (ℕ → ℕ → Question) → ℕ → ℕ → ℕ → Result Question
+range_of ask n start len =
+    unless (leb 1 len) OutOfRange (
+    unless (leb (start + len) n) OutOfRange (
+    value (ask start len)))
+
+abbrev pub burst_of : ℕ → ℕ → ℕ → ℕ → Result Question
+burst_of n start len b =
+    unless (column_limits b) BadBurst (
+    unless (leb 1 len) OutOfRange (
+    unless (leb (start + len) n) OutOfRange (
+    value (AskBurst start len b))))
+
+-- ---- what the code reads number by number is what the definitions read
+then-then : {A B C : Type 0} (r : Result A) (f : A → Result B) (g : B → Result C) → and_then (and_then r f) g ≡ and_then r (λ a. and_then (f a) g)
+then-then (refusal k) f g = refl
+then-then (value a) f g = refl
+
+then-each : {A B : Type 0} (r : Result A) (f g : A → Result B) → ((a : A) → f a ≡ g a) → and_then r f ≡ and_then r g
+then-each (refusal k) f g e = refl
+then-each (value a) f g e = e a
+
+unless-then : {A B : Type 0} (b : Bool) (e : Refusal) (a : A) (f : A → Result B) → unless b e (f a) ≡ and_then (unless b e (value a)) f
+unless-then true e a f = refl
+unless-then false e a f = refl
+
+-- a test behind the last number, of what the number gives
+last-then : {B : Type 0} (s : List ℕ) (at : ℕ) (f : ℕ → Result B) → and_then (number_at s at) (λ (v, end). unless (leb (length s) end) TrailingBytes (f v)) ≡ and_then (last_at s at) f
+last-then s at f =
+    then-each (number_at s at) _ _ (λ p. unless-then (leb (length s) p.1) TrailingBytes p.0 f)
+    ∙ sym (then-then (number_at s at) (λ (v, end). unless (leb (length s) end) TrailingBytes (value v)) f)
+
+two-then : {B : Type 0} (s : List ℕ) (at : ℕ) (f : ℕ → ℕ → Result B) → and_then (two_at s at) (λ (a, b, end). unless (leb (length s) end) TrailingBytes (f a b))
+    ≡ and_then (number_at s at) (λ (a, i). and_then (last_at s i) (λ b. f a b))
+unfolding two_at
+two-then s at f =
+    then-then (number_at s at) _ _
+    ∙ then-each (number_at s at) _ _ (λ p. then-then (number_at s p.1) _ _ ∙ last-then s p.1 (f p.0))
+
+three-then : {B : Type 0} (s : List ℕ) (at : ℕ) (f : ℕ → ℕ → ℕ → Result B) → and_then (three_at s at) (λ (a, b, c, end). unless (leb (length s) end) TrailingBytes (f a b c))
+    ≡ and_then (number_at s at) (λ (a, i). and_then (number_at s i) (λ (b, j). and_then (last_at s j) (λ c. f a b c)))
+unfolding two_at three_at
+three-then s at f =
+    then-then (two_at s at) _ _
+    ∙ then-then (number_at s at) _ _
+    ∙ then-each (number_at s at) _ _ (λ p. then-then (number_at s p.1) _ _
+    ∙ then-each (number_at s p.1) _ _ (λ q. then-then (number_at s q.1) _ _ ∙ last-then s q.1 (f p.0 q.0)))
+
+module _ (s : List ℕ) (at : ℕ) where
+  pub opening_read : opening_at s at ≡ and_then (number_at s at) (λ (version, i). and_then (number_at s i) (λ (h, j). and_then (last_at s j) (λ key. opening_of version h key)))
+  unfolding opening_at
+  opening_read = three-then s at opening_of
+
+  pub range_read : (ask : ℕ → ℕ → Question) (n : ℕ) → range_question ask s at n ≡ and_then (number_at s at) (λ (start, i). and_then (last_at s i) (λ len. range_of ask n start len))
+  unfolding range_question
+  range_read ask n = two-then s at (range_of ask n)
+
+  pub burst_read : (n : ℕ) → burst_range_at s at n ≡ and_then (number_at s at) (λ (start, i). and_then (number_at s i) (λ (len, j). and_then (last_at s j) (λ b. burst_of n start len b)))
+  unfolding burst_range_at
+  burst_read n = three-then s at (burst_of n)
+
+  pub size_read : size_at s at ≡ and_then (last_at s at) (λ n. unless (leb n max_bits) OutOfRange (value (size_answer n)))
+  unfolding size_at
+  size_read = last-then s at _
+
+  pub hash_read : (h : ℕ) → hash_at h s at ≡ and_then (last_at s at) (λ v. unless (ltb v (2 ^ h)) OutOfRange (value (hash_answer v)))
+  unfolding hash_at
+  hash_read h = last-then s at _
+
+  pub syndrome_read : (len h : ℕ) → syndrome_at len h s at
+      ≡ and_then (number_at s at) (λ (a, i). and_then (last_at s i) (λ v. unless (leb a len) OutOfRange (unless (ltb v (2 ^ h)) OutOfRange (value (syndrome_answer a v)))))
+  unfolding syndrome_at
+  syndrome_read len h = two-then s at (λ a v. unless (leb a len) OutOfRange (unless (ltb v (2 ^ h)) OutOfRange (value (syndrome_answer a v))))
+
+  pub columns_read : (len b h : ℕ) → burst_at len b h s at
+      ≡ and_then (numbers_at b s at) (λ (l, i). and_then (last_at s i) (λ v. unless (within_columns b len 0 l) OutOfRange (unless (ltb v (2 ^ h)) OutOfRange (value (burst_answer l v)))))
+  unfolding burst_at
+  columns_read len b h = then-each (numbers_at b s at) _ _ (λ p. last-then s p.1 _)
+
+-- ---- readings put together
+-- behind the number that was read at position at; still there where none was read
+abbrev pub behind_number : CodeResult (ℕ × ℕ) Refusal → ℕ → ℕ
+behind_number (Ok (v, end)) at = end
+behind_number (Err e) at = at
 
 -- the first refusal, or the numbers and the position behind the last
 abbrev pub two_of : (first second : Result (ℕ × ℕ)) → Result (ℕ × ℕ × ℕ)
@@ -48,22 +149,22 @@ three_of first second third =
 
 -- ---- readings of the message s, each behind the one before, are the numbers that stand there
 module _ (s : List ℕ) (at : ℕ) where
-  pub two-read : (first second : NumberRead) → said_number first ≡ number_at s at → said_number second ≡ number_at s (behind_number first at) → two_of (said_number first) (said_number second) ≡ two_at s at
+  pub two-read : (first second : CodeResult (ℕ × ℕ) Refusal) → said first ≡ number_at s at → said second ≡ number_at s (behind_number first at) → two_of (said first) (said second) ≡ two_at s at
   unfolding two_at
-  two-read (Value a next) second p q = rw (← p, ← q) refl
-  two-read (NoNumber e) second p q = rw (← p) refl
+  two-read (Ok (a, next)) second p q = rw (← p, ← q) refl
+  two-read (Err e) second p q = rw (← p) refl
 
-  pub three-read : (first second third : NumberRead) → said_number first ≡ number_at s at → said_number second ≡ number_at s (behind_number first at)
-      → said_number third ≡ number_at s (behind_number second (behind_number first at)) → three_of (said_number first) (said_number second) (said_number third) ≡ three_at s at
+  pub three-read : (first second third : CodeResult (ℕ × ℕ) Refusal) → said first ≡ number_at s at → said second ≡ number_at s (behind_number first at)
+      → said third ≡ number_at s (behind_number second (behind_number first at)) → three_of (said first) (said second) (said third) ≡ three_at s at
   unfolding two_at three_at
-  three-read (Value a next) (Value b end) third p q r = rw (← p, ← q, ← r) refl
-  three-read (Value a next) (NoNumber e) third p q r = rw (← p, ← q) refl
-  three-read (NoNumber e) second third p q r = rw (← p) refl
+  three-read (Ok (a, next)) (Ok (b, end)) third p q r = rw (← p, ← q, ← r) refl
+  three-read (Ok (a, next)) (Err e) third p q r = rw (← p, ← q) refl
+  three-read (Err e) second third p q r = rw (← p) refl
 
 -- ---- numbers read one behind the other
 -- the first k of an array, and the position behind them, if the last reading says one
-abbrev pub said_many : ℕ → List ℕ → NumberRead → Result (List ℕ × ℕ)
-said_many k list last = and_then (said_number last) (λ (v, end). value (take k list, end))
+abbrev pub said_many : ℕ → List ℕ → CodeResult (ℕ × ℕ) Refusal → Result (List ℕ × ℕ)
+said_many k list last = and_then (said last) (λ (v, end). value (take k list, end))
 
 -- the numbers l, which were read, and those of a reading behind them
 abbrev pub behind_numbers : List ℕ → Result (List ℕ × ℕ) → Result (List ℕ × ℕ)
@@ -107,6 +208,14 @@ module _ (s : List ℕ) where
         ap₂ (λ (l : List ℕ) (n : ℕ). value (l, end)) (ap (λ (j : ℕ). take j list) (sym e) ∙ sym (append-nil (take i list))) f
         ∙ sym (ap (λ (j : ℕ). behind_numbers (take i list) (numbers_at j s end)) f) ∙ is
 
+    -- the same where the list has no other numbers
+    pub many-whole : k ≤ i → length list ≤ i → value (list, end) ≡ o
+    unfolding numbers_at
+    many-whole e m =
+        let f : k - i ≡ 0 = omega arith in
+        ap₂ (λ (l : List ℕ) (n : ℕ). value (l, end)) (sym (take_all i list m) ∙ sym (append-nil (take i list))) f
+        ∙ sym (ap (λ (j : ℕ). behind_numbers (take i list) (numbers_at j s end)) f) ∙ is
+
 -- ---- the first k numbers of an array, from number i on
 pub rest-next : (a : List ℕ) (k i : ℕ) → i < k → k ≤ length a → drop i (take k a) ≡ get_or a i 0 ∷ drop (i + 1) (take k a)
 rest-next a k i h m =
@@ -138,7 +247,7 @@ put-turn a k i h m s t u at end is e f = rw (e, f) (sym (sets-append s (number (
 pub put-end : (a : List ℕ) (k i : ℕ) → k ≤ i → k ≤ length a → (s u : List ℕ) (at : ℕ) → sets s at (rest_bytes a k i) ≡ u → s ≡ u
 put-end a k i h m s u at is = sym (ap (sets s at) (bytes-none a k i h m)) ∙ is
 
--- ---- the syndromes that are still to be tested
+-- ---- the syndromes among the first b of an array that are still to be tested
 module _ (a : List ℕ) (b len j : ℕ) (m : b ≤ length a) where
   pub within-next : j < b → within_columns b len j (drop j (take b a)) ≡ leb (get_or a j 0) (column_length b j len) && within_columns b len (j + 1) (drop (j + 1) (take b a))
   unfolding within_columns
@@ -148,7 +257,7 @@ module _ (a : List ℕ) (b len j : ℕ) (m : b ≤ length a) where
   unfolding within_columns
   within_end h = ap (within_columns b len j) (rest-none a b j h m)
 
-  -- as the code meets it: x is the length of column j, and o is the answer
+  -- x is the length of column j, and o is the answer
   module _ {x : ℕ} {o : Bool} (h : j < b) (e : x ≡ column_length b j len) (is : within_columns b len j (drop j (take b a)) ≡ o) where
     pub within-fails : x < get_or a j 0 → false ≡ o
     within-fails l =
@@ -160,6 +269,56 @@ module _ (a : List ℕ) (b len j : ℕ) (m : b ≤ length a) where
     within-turn l =
         let t = le-leb (get_or a j 0) (column_length b j len) (omega arith) in
         let f : within_columns b len j (drop j (take b a)) ≡ within_columns b len (j + 1) (drop (j + 1) (take b a)) = within-next h ∙ rw t refl in
+        sym f ∙ is
+
+-- ---- numbers of a list, from number i on
+from-next : (a : List ℕ) (i : ℕ) → i < length a → drop i a ≡ get_or a i 0 ∷ drop (i + 1) a
+from-next a i h = drop-cons a i 0 h ∙ ap (λ (j : ℕ). get_or a i 0 ∷ drop j a) (sym (add-one i))
+
+-- the bytes that are still to be written
+abbrev pub bytes_from : List ℕ → ℕ → List ℕ
+bytes_from a i = all_numbers (drop i a)
+
+bytes_from-next : (a : List ℕ) (i : ℕ) → i < length a → bytes_from a i ≡ number (get_or a i 0) ++ bytes_from a (i + 1)
+unfolding all_numbers
+bytes_from-next a i h = ap all_numbers (from-next a i h)
+
+pub from-none : (a : List ℕ) (i : ℕ) → length a ≤ i → bytes_from a i ≡ []
+unfolding all_numbers
+from-none a i h = ap all_numbers (drop_of_length-le a {i = i} h)
+
+pub from-size : (a : List ℕ) (i : ℕ) → i < length a → length (bytes_from a i) ≡ length (number (get_or a i 0)) + length (bytes_from a (i + 1))
+from-size a i h = ap length (bytes_from-next a i h) ∙ length-append (number (get_or a i 0)) (bytes_from a (i + 1))
+
+pub from-put : (a : List ℕ) (i : ℕ) → i < length a → (s t u : List ℕ) (at end : ℕ) → sets s at (bytes_from a i) ≡ u
+    → t ≡ sets s at (number (get_or a i 0)) → end ≡ at + length (number (get_or a i 0)) → sets t end (bytes_from a (i + 1)) ≡ u
+from-put a i h s t u at end is e f = rw (e, f) (sym (sets-append s (number (get_or a i 0)) (bytes_from a (i + 1)) at) ∙ ap (sets s at) (sym (bytes_from-next a i h)) ∙ is)
+
+pub from-end : (a : List ℕ) (i : ℕ) → length a ≤ i → (s u : List ℕ) (at : ℕ) → sets s at (bytes_from a i) ≡ u → s ≡ u
+from-end a i h s u at is = sym (ap (sets s at) (from-none a i h)) ∙ is
+
+-- ---- the syndromes that are still to be tested
+module _ (a : List ℕ) (b len j : ℕ) where
+  tested-next : j < length a → within_columns b len j (drop j a) ≡ leb (get_or a j 0) (column_length b j len) && within_columns b len (j + 1) (drop (j + 1) a)
+  unfolding within_columns
+  tested-next h = ap (within_columns b len j) (from-next a j h) ∙ rw (add-one j) refl
+
+  pub tested_end : length a ≤ j → within_columns b len j (drop j a) ≡ true
+  unfolding within_columns
+  tested_end h = ap (within_columns b len j) (drop_of_length-le a {i = j} h)
+
+  -- as the code meets it: x is the length of column j, and o is the answer
+  module _ {x : ℕ} {o : Bool} (h : j < length a) (e : x ≡ column_length b j len) (is : within_columns b len j (drop j a) ≡ o) where
+    pub tested-fails : x < get_or a j 0 → false ≡ o
+    tested-fails l =
+        let t = lt-leb (get_or a j 0) (column_length b j len) (omega arith) in
+        let f : within_columns b len j (drop j a) ≡ false = tested-next h ∙ rw t refl in
+        sym f ∙ is
+
+    pub tested-turn : get_or a j 0 ≤ x → within_columns b len (j + 1) (drop (j + 1) a) ≡ o
+    tested-turn l =
+        let t = le-leb (get_or a j 0) (column_length b j len) (omega arith) in
+        let f : within_columns b len j (drop j a) ≡ within_columns b len (j + 1) (drop (j + 1) a) = tested-next h ∙ rw t refl in
         sym f ∙ is
 
 -- ---- the hash behind the syndromes l, which are within their columns' lengths or not
@@ -183,16 +342,64 @@ module _ (len b h : ℕ) (s : List ℕ) (at n : ℕ) (kind : number_at s 0 ≡ v
       so ∙ f
 
 -- the numbers behind the kind of a message that was read to a burst's answer
-pub burst-numbers : (b : ℕ) (s : List ℕ) → BurstAnswered b s → (first : NumberRead) (list : List ℕ) (last : NumberRead) → said_number first ≡ number_at s 0
+pub burst-numbers : (b : ℕ) (s : List ℕ) → BurstAnswered b s → (first : CodeResult (ℕ × ℕ) Refusal) (list : List ℕ) (last : CodeResult (ℕ × ℕ) Refusal) → said first ≡ number_at s 0
     → said_many b list last ≡ numbers_at b s (behind_number first 0) → take b list ≡ burst_syndromes b s
-burst-numbers b s w (NoNumber x) list last e f =
+burst-numbers b s w (Err x) list last e f =
     let r = burst-stands w.kind w.len b w.h s w.syndromes w.hash w.read in
     absurd (no_value (refusal_number x) (r.number, r.at) (e ∙ r.kind))
-burst-numbers b s w (Value n at) list (NoNumber x) e f =
+burst-numbers b s w (Ok (n, at)) list (Err x) e f =
     let r = burst-stands w.kind w.len b w.h s w.syndromes w.hash w.read in
     let g : at ≡ r.at = ap (λ (p : ℕ × ℕ). p.1) (value-is (e ∙ r.kind)) in
     absurd (no_value (refusal_number x) (w.syndromes, r.end) (f ∙ ap (numbers_at b s) g ∙ r.read))
-burst-numbers b s w (Value n at) list (Value v end) e f =
+burst-numbers b s w (Ok (n, at)) list (Ok (v, end)) e f =
     let r = burst-stands w.kind w.len b w.h s w.syndromes w.hash w.read in
     let g : at ≡ r.at = ap (λ (p : ℕ × ℕ). p.1) (value-is (e ∙ r.kind)) in
     ap (λ (p : List ℕ × ℕ). p.0) (value-is (f ∙ ap (numbers_at b s) g ∙ r.read)) ∙ burst-is w.kind w.len b w.h s w.syndromes w.hash w.read
+
+-- the same, where the reader stands at position end behind them
+pub burst-filled : (b : ℕ) (s : List ℕ) → BurstAnswered b s → (first : CodeResult ℕ Refusal) (read : CodeResult (Unit {0}) Refusal) (list : List ℕ) (at end : ℕ)
+    → said_next first at ≡ number_at s 0 → said_numbers read list end ≡ numbers_at b s at → list ≡ burst_syndromes b s
+burst-filled b s w (Err x) read list at end e f =
+    let r = burst-stands w.kind w.len b w.h s w.syndromes w.hash w.read in
+    absurd (no_value (refusal_number x) (r.number, r.at) (e ∙ r.kind))
+burst-filled b s w (Ok v) (Err x) list at end e f =
+    let r = burst-stands w.kind w.len b w.h s w.syndromes w.hash w.read in
+    let g : at ≡ r.at = ap (λ (p : ℕ × ℕ). p.1) (value-is (e ∙ r.kind)) in
+    absurd (no_value (refusal_number x) (w.syndromes, r.end) (f ∙ ap (numbers_at b s) g ∙ r.read))
+burst-filled b s w (Ok v) (Ok u) list at end e f =
+    let r = burst-stands w.kind w.len b w.h s w.syndromes w.hash w.read in
+    let g : at ≡ r.at = ap (λ (p : ℕ × ℕ). p.1) (value-is (e ∙ r.kind)) in
+    ap (λ (p : List ℕ × ℕ). p.0) (value-is (f ∙ ap (numbers_at b s) g ∙ r.read)) ∙ burst-is w.kind w.len b w.h s w.syndromes w.hash w.read
+
+-- a burst's answer, of which the code has read the syndromes l and the hash v behind the kind
+module _ (len b h : ℕ) (s : List ℕ) (at n : ℕ) (kind : number_at s 0 ≡ value (n, at)) where
+  pub columns-none : (k : ℕ) → numbers_at b s at ≡ refusal k → burst_at len b h s at ≡ refusal k
+  unfolding burst_at
+  columns-none k e = rw e refl
+
+  module _ (l : List ℕ) (next : ℕ) (e : numbers_at b s at ≡ value (l, next)) where
+    pub hash-none : (k : ℕ) → last_at s next ≡ refusal k → burst_at len b h s at ≡ refusal k
+    hash-none k f = columns_read s at len b h ∙ rw (e, f) refl
+
+    pub columns-some : (v : ℕ) → last_at s next ≡ value v
+        → burst_at len b h s at ≡ unless (within_columns b len 0 l) OutOfRange (unless (ltb v (2 ^ h)) OutOfRange (value (burst_answer (burst_syndromes b s) v)))
+    unfolding burst_syndromes
+    columns-some v f = columns_read s at len b h ∙ rw (e, f, kind, e) refl
+
+    -- as the code tests them: t says whether they are within their columns' lengths, u whether v is a hash
+    module _ (v : ℕ) (f : last_at s next ≡ value v) {t : Bool} (w : t ≡ within_columns (length l) len 0 l) (many : length l ≡ b) where
+      columns-tested : burst_at len b h s at ≡ unless t OutOfRange (unless (ltb v (2 ^ h)) OutOfRange (value (burst_answer (burst_syndromes b s) v)))
+      columns-tested = columns-some v f ∙ rw (w, many) refl
+
+      pub columns-outside : t ≡ false → refusal (refusal_number OutOfRange) ≡ burst_at len b h s at
+      columns-outside p = sym (columns-tested ∙ rw p refl)
+
+      pub columns-hash : {u : Bool} → t ≡ true → u ≡ ltb v (2 ^ h) → burst_at len b h s at ≡ unless u OutOfRange (value (burst_answer (burst_syndromes b s) v))
+      columns-hash p q = columns-tested ∙ rw (p, q) refl
+
+-- what the loops over numbers cite
+pub ruleset size_turns = (size-most, from-size, from-none)
+
+pub ruleset put_turns = (from-size, from-none, from-put, from-end)
+
+pub ruleset within_turns = (tested_end, tested-fails, tested-turn)

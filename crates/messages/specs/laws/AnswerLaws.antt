@@ -1,5 +1,5 @@
 -- Laws of answers: lengths, reading what was written, and that nothing else is read to an answer.
-use Rattle.std.specs.Prelude.{◌≡◌, Bool, true, false, ℕ, zero, suc, ◌+◌, ◌-◌, ◌*◌, ◌^◌, max, ◌≤◌, ◌<◌, get_or, take, drop, ltb, leb, eqb}
+use Rattle.std.specs.Prelude.{◌≡◌, Result as CodeResult, Ok, Err, Bool, true, false, ℕ, zero, suc, ◌+◌, ◌-◌, ◌*◌, ◌^◌, max, ◌≤◌, ◌<◌, get_or, take, drop, ltb, leb, eqb}
 use Rattle.std.proofs.Math.Path.{refl, ap, ap₂}
 use Rattle.std.proofs.Common.{sym, ◌∙◌, subst, one-mul, add-mul, le-mul_of_pos_right, div-lt_iff_lt-mul, take-append-drop, drop_at, get_or-drop, take_all, length-take-le, pow_mono}
 use mathlib.Core.List.{List, [], ◌∷◌, ◌++◌}
@@ -7,23 +7,22 @@ use Rattle.std.proofs.Math.Decide.{dec_lt}
 use native.Mathlib.Omega.{arith}
 use Rattle.std.proofs.Math.ListN.{length, get_or-eq_default, length-append, length-drop}
 use borrow.Author.Tests.{lt-ltb, le-leb, lt-leb, eq-eqb, ne_eqb, ltb-true, leb-true, eqb-true}
-use Rattle.strings.specs.laws.ResultLaws.{value-is}
-use Rattle.strings.specs.Bits.{max_bits, range, bytes_for, pack}
+use Rattle.strings.specs.laws.ResultLaws.{value-is, unless-passed, then-passed}
+use Rattle.strings.specs.Bits.{max_bits, range, bytes_for, pack, Bytes}
 use Rattle.strings.specs.StringRule.{string_rule, IsString}
 use Rattle.strings.specs.Refusals.{refusal_number}
 use Rattle.strings.specs.Results.{Result, refusal, value, unless}
 use Rattle.strings.specs.laws.Tests.{and_left, and_right, and-true}
 use Rattle.strings.proofs.laws.RangeLaws.{range_length, range-behind}
 use Rattle.strings.proofs.laws.RuleLaws.{rule-is, is-rule}
-use Rattle.strings.specs.Bits.{Bytes}
 use Rattle.strings.proofs.laws.PackLaws.{length-pack, pack-bits, pack-string, string-packed}
-use Rattle.strings.specs.laws.ResultLaws.{unless-passed, then-passed}
+use Rattle.strings.specs.declared.Refusal.{Refusal}
 use Rattle.strings.specs.declared.Refusal.TheVariants.{Truncated, BadKind, TrailingBytes, OutOfRange}
 use Rattle.codes.specs.Columns.{column_length}
 use Rattle.messages.specs.declared.Kind.{Kind}
 use Rattle.messages.specs.declared.Kind.TheVariants.{Open, Hash, Syndrome, Bits, Burst}
-use Rattle.messages.specs.declared.AnswerRead.{AnswerRead}
-use Rattle.messages.specs.declared.AnswerRead.TheVariants.{IsSize, IsHash, IsSyndrome, IsBits, IsBurst, NoAnswer}
+use Rattle.messages.specs.declared.Found.{Found}
+use Rattle.messages.specs.declared.Found.TheVariants.{IsSize, IsHash, IsSyndrome, IsBits, IsBurst}
 use Rattle.messages.specs.Numbers.{number, number_at, two_at, all_numbers, numbers_at}
 use Rattle.messages.specs.laws.NumberLaws.{number-reads, number-reads-last, number-form, number-form-last, two-reads-last, two-form-last, ends_there, drop_past, size-some, size-most, size-short, numbers-short, numbers-read, numbers-form}
 use Rattle.messages.specs.Kinds.{kind_number}
@@ -176,8 +175,10 @@ module _ (len : ℕ) (s : List ℕ) (at : ℕ) (h : at ≤ length s) where
     pub bits-there : b ≡ true → BitsAt len s at
     bits-there f = record { inside = h; string = rule-is (drop at s) len (sym rest-rule ∙ f) }
 
+pub ruleset bits_laws = (bits-cut, bits_left, bits-spare, bits-whole, bits-there)
+
 -- where an answer's bits lie, once it is known to be bits
-pub bits-read : (s : List ℕ) (len at : ℕ) {r : AnswerRead} → BitsThere s len r → r ≡ IsBits at → BitsAt len s at
+pub bits-read : (s : List ℕ) (len at : ℕ) {r : CodeResult Found Refusal} → BitsThere s len r → r ≡ Ok (IsBits at) → BitsAt len s at
 bits-read s len at b e = subst (BitsThere s len) e b
 
 -- the kind's number v is known
@@ -362,14 +363,14 @@ fields-of Bits len b h s at a = bits_of len b h s at a
 fields-of Burst len b h s at a = burst-of len b h s at a
 
 -- only an answer of kind bits is left where it lies
-pub not-bits : (kind : Kind) (len b h : ℕ) (s : List ℕ) (at : ℕ) (r : AnswerRead) → (kind_number kind ≡ kind_number Bits → ⊥) → said_answer s len b r ≡ answer_fields kind len b h s at → BitsThere s len r
-not-bits kind len b h s at (IsSize n) other e = tt
-not-bits kind len b h s at (IsHash v) other e = tt
-not-bits kind len b h s at (IsSyndrome a v) other e = tt
-not-bits kind len b h s at (IsBits i) other e =
+pub not-bits : (kind : Kind) (len b h : ℕ) (s : List ℕ) (at : ℕ) (r : CodeResult Found Refusal) → (kind_number kind ≡ kind_number Bits → ⊥) → said_answer s len b r ≡ answer_fields kind len b h s at → BitsThere s len r
+not-bits kind len b h s at (Ok (IsSize n)) other e = tt
+not-bits kind len b h s at (Ok (IsHash v)) other e = tt
+not-bits kind len b h s at (Ok (IsSyndrome a v)) other e = tt
+not-bits kind len b h s at (Ok (IsBits i)) other e =
     absurd (other (ap kind_number (sym (fields-of kind len b h s at (bits_answer (range s (8 * i) len)) (sym e)).of-kind)))
-not-bits kind len b h s at (IsBurst v) other e = tt
-not-bits kind len b h s at (NoAnswer x) other e = tt
+not-bits kind len b h s at (Ok (IsBurst v)) other e = tt
+not-bits kind len b h s at (Err x) other e = tt
 
 -- what a message that is read to an answer is
 pub record IsAnswer (kind : Kind) (len b h : ℕ) (s : List ℕ) (a : Answer) : Type 0 where
@@ -422,5 +423,5 @@ unfolding burst_syndromes
 burst-is kind len b h s l v is = let r = burst-stands kind len b h s l v is in rw (r.kind, r.read) refl
 
 -- as the caller meets it
-pub burst-answered : (kind : Kind) (len b h : ℕ) (s : List ℕ) (v : ℕ) {r : AnswerRead} → said_answer s len b r ≡ read_answer kind len b h s → r ≡ IsBurst v → BurstAnswered b s
+pub burst-answered : (kind : Kind) (len b h : ℕ) (s : List ℕ) (v : ℕ) {r : CodeResult Found Refusal} → said_answer s len b r ≡ read_answer kind len b h s → r ≡ Ok (IsBurst v) → BurstAnswered b s
 burst-answered kind len b h s v e f = record { kind = kind; len = len; h = h; syndromes = burst_syndromes b s; hash = v; read = sym e ∙ ap (said_answer s len b) f }

@@ -1,11 +1,10 @@
 -- Laws of kinds: each has its number, and the kind of a message is read from its first byte.
 use Rattle.std.specs.Prelude.{◌≡◌, refl, List, ◌++◌, ℕ, zero, suc, ◌+◌, ◌≤◌, length, drop}
 use Rattle.std.proofs.Common.{ap, ap₂, ◌∙◌, arith}
-use Rattle.strings.specs.laws.ResultLaws.{value-is}
+use Rattle.strings.specs.laws.ResultLaws.{value-is, no_value, then-passed}
 use Rattle.strings.specs.Refusals.{refusal_number}
 use Rattle.strings.specs.Results.{Result, refusal, value, mapped}
 use Rattle.strings.specs.Bits.{Bytes}
-use Rattle.strings.specs.laws.ResultLaws.{no_value, then-passed}
 use Rattle.strings.specs.declared.Refusal.TheVariants.{BadKind}
 use Rattle.messages.specs.declared.Kind.{Kind}
 use Rattle.messages.specs.declared.Kind.TheVariants.{Open, Hash, Syndrome, Bits, Burst}
@@ -50,7 +49,7 @@ known-number (suc (suc (suc zero))) at k b e = kind-is e
 known-number (suc (suc (suc (suc zero)))) at k b e = kind-is e
 known-number (suc (suc (suc (suc (suc v))))) at k b e = absurd (no_value (refusal_number BadKind) (k, b) e)
 
--- ---- as the code meets it: v is a kind's number, or no kind's
+-- ---- v is a kind's number, or no kind's
 pub kind-known : {v i at : ℕ} (k : Kind) → v ≡ i → i ≡ kind_number k → value (k, at) ≡ mapped {B = Kind × ℕ} (λ j. (j, at)) (kind_of v)
 kind-known k e f = rw (e, f, kind-of k) refl
 

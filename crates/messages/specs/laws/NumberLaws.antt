@@ -11,13 +11,11 @@ use Rattle.std.proofs.lemmas.List.Edits.{sets}
 use Rattle.std.proofs.Math.Seq.{drop-append_seam}
 use Rattle.std.proofs.lemmas.List.{drop-append-le}
 use borrow.Author.Tests.{lt-ltb, le-ltb, le-leb, lt-leb, ltb-true, ltb-false, leb-true}
-use Rattle.strings.specs.laws.ResultLaws.{value-is}
-use Rattle.strings.specs.Bits.{max_bits}
+use Rattle.strings.specs.laws.ResultLaws.{value-is, unless-passed, then-passed}
+use Rattle.strings.specs.Bits.{max_bits, Bytes}
 use Rattle.strings.specs.Refusals.{refusal_number}
 use Rattle.strings.specs.Results.{Result, refusal, value, and_then}
-use Rattle.strings.specs.Bits.{Bytes}
 use Rattle.strings.specs.laws.Tests.{by-test}
-use Rattle.strings.specs.laws.ResultLaws.{unless-passed, then-passed}
 use Rattle.strings.specs.declared.Refusal.TheVariants.{Truncated, BadNumber}
 use Rattle.messages.specs.Numbers.{groups, number, next_byte, number_at, two_at, three_at, all_numbers, numbers_at}
 
@@ -87,6 +85,21 @@ size-short v h = go (dec_lt v 128) (dec_lt v 16384)
     go (yes l) m = let e = size-last v l in omega arith
     go (no l) (yes m) = let e = size-two v (omega arith) m in omega arith
     go (no l) (no m) = let e = size-three v (omega arith) (omega arith) in omega arith
+
+pub ruleset size_laws = (size-last, size-two, size-three, size-four, size-five)
+
+-- ---- the bytes of numbers one behind the other
+pub one_number : (v : ℕ) → all_numbers (v ∷ []) ≡ number v
+unfolding all_numbers
+one_number v = append-nil (number v)
+
+pub two_numbers : (a b : ℕ) → all_numbers (a ∷ b ∷ []) ≡ number a ++ number b
+unfolding all_numbers
+two_numbers a b = ap (λ (l : List ℕ). number a ++ l) (one_number b)
+
+pub three_numbers : (a b c : ℕ) → all_numbers (a ∷ b ∷ c ∷ []) ≡ number a ++ (number b ++ number c)
+unfolding all_numbers
+three_numbers a b c = ap (λ (l : List ℕ). number a ++ l) (two_numbers b c)
 
 pub numbers-most : (l : List ℕ) → length (all_numbers l) ≤ 5 * length l
 unfolding all_numbers
@@ -187,6 +200,8 @@ module _ (s : List ℕ) (i w v : ℕ) where
   read-fifth (suc k) p h e l = absurd (omega arith)
 
 -- a first byte that is the whole number
+pub ruleset fifth_laws = (read-cut, read-zero, read-fifth-large, read-fifth)
+
 pub read_short : (s : List ℕ) (at v : ℕ) → at < length s → get_or s at 0 ≡ v → v < 128 → number_at s at ≡ value (v, at + 1)
 unfolding number_at
 read_short s at v h e l = rw (lt-ltb at (length s) h, e, lt-ltb v 128 l) refl

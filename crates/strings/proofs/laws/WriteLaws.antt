@@ -1,8 +1,10 @@
 -- Laws of written bits.
-use Rattle.std.specs.Prelude.{◌≡◌, refl, Bool, ◌⊎◌, List, [], ◌∷◌, ◌++◌, ℕ, suc, ◌+◌, ◌-◌, ◌*◌, ◌≤◌, ◌<◌, length, set, take, drop}
-use Rattle.std.proofs.Common.{sym, ap, ap₂, ◌∙◌, inl, inr, add-zero, zero-add, add-one, arith}
-use Rattle.std.proofs.lemmas.List.Edits.{sets}
-use Rattle.strings.specs.Bits.{bit_at, range, set_bit, write_bits, zero_bytes}
+use Rattle.std.specs.Prelude.{◌≡◌, refl, Bool, ◌⊎◌, List, [], ◌∷◌, ◌++◌, ℕ, suc, ◌+◌, ◌-◌, ◌*◌, ◌≤◌, ◌<◌, length, set, take, drop, replicate}
+use Rattle.std.proofs.Common.{sym, ap, ap₂, ◌∙◌, inl, inr, add-zero, zero-add, add-one, arith, length-drop, length-take-le, drop-drop, append_assoc}
+use Rattle.std.proofs.lemmas.List.Edits.{sets, sets-eq}
+use Rattle.std.proofs.lemmas.List.{length-replicate}
+use borrow.Rule.Slice.PartMut.{put_mid}
+use Rattle.strings.specs.Bits.{bit_at, range, set_bit, write_bits, zero_bytes, cleared}
 use Rattle.strings.proofs.laws.BitLaws.{set_bit-same, set_bit-other, length-set_bit, set_bit-front, set_bit-behind}
 use Rattle.strings.proofs.laws.RangeLaws.{range_same, range-add, range-take, range-drop, rest, rest-is}
 
@@ -104,6 +106,18 @@ clear_next s u at n i h e =
     let k : n - i ≡ suc (n - (i + 1)) = omega arith in
     let j : at + (i + 1) ≡ suc (at + i) = omega arith in
     rw j (rw k at e)
+
+-- the bytes of a part filled with 0
+pub cleared-filled : (s u : List ℕ) (at n : ℕ) → at + n ≤ length s → u ≡ replicate (length (take (at + n - at) (drop at s))) 0 → put_mid at (at + n - at) s u ≡ cleared s at n
+unfolding cleared
+cleared-filled s u at n h e =
+    let k : at + n - at ≡ n = omega arith in
+    let z = zero_bytes n in
+    let m : length z ≡ n = length-replicate n 0 in
+    let r : at + length z ≤ length s = omega arith in
+    let d = length-drop at s in
+    let t : length (take n (drop at s)) ≡ n = length-take-le n (drop at s) (omega arith) in
+    rw (e, sets-eq z s at r, k, t, m) (ap (λ x. take at s ++ (z ++ x)) (drop-drop n at s) ∙ sym (append_assoc (take at s) z _))
 
 pub clear-last : (s u : List ℕ) (at n i : ℕ) → n ≤ i → sets s (at + i) (zero_bytes (n - i)) ≡ u → s ≡ u
 clear-last s u at n i h e =

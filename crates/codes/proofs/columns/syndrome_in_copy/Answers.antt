@@ -3,6 +3,6 @@ use Rattle.codes.specs.laws.ColumnReadLaws.{syndrome-held}
 use Rattle.codes.proofs.columns.syndrome_in_copy.Goals as goal
 
 pub returns : goal.returns
-returns c = let start = c.before.before.before.before.before.before.before.before.before in
-    let args = start.args in
-    syndrome-held args.s.now args.start args.len args.b args.j start.requires.le_b.0 _ start.requires.part_2 _ _ _ c.copy_column.ensures c.column_length.ensures c.syndrome_of.ensures
+returns c = let col = c.args.c in
+    let s = col.piece in
+    syndrome-held s.bytes.now s.start s.len col.b col.j col.least _ c.requires _ _ _ c.copy_column.ensures c.column_length-len.ensures c.syndrome_of.ensures

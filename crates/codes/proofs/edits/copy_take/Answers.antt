@@ -1,7 +1,12 @@
 -- `codes::copy_take` meets its contract. Assumes nothing.
-use Rattle.codes.specs.laws.EditLaws.{take-copied}
+use mathlib.Core.Path.{ap, ◌∙◌}
+use Prim.Native.Nat.{◌+◌}
+use Rattle.strings.specs.Bits.{write_bits}
+use Rattle.codes.specs.laws.EditLaws.{skip-copied}
 use Rattle.codes.proofs.edits.copy_take.Goals as goal
 
 pub returns : goal.returns
-returns c = let s = c.before.before.before.before.before.before.before.before.before.before in
-    take-copied s.args.s.now s.args.start s.args.len s.args.i s.args.to.now _ _ s.args.at s.requires.i_lt_len c.copy_bits.ensures c.copy_bits-2.ensures
+returns c = let s = c.args.s in
+    let front = c.copy_bits.ensures ∙ ap (write_bits c.args.to.now c.args.at) c.first.ensures.taken in
+    let behind = c.copy_bits-2.ensures ∙ ap (write_bits _ (c.args.at + c.args.i)) c.skip.ensures.left in
+    skip-copied s.bytes.now s.start s.len c.args.i c.args.to.now _ _ c.args.at c.requires.i_lt_len front behind

@@ -1,8 +1,10 @@
 -- `codes::hash_take` meets its contract. Assumes nothing.
 use mathlib.Core.Path.{◌∙◌}
-use Rattle.codes.specs.laws.EditLaws.{take-hashed}
+use Rattle.codes.specs.laws.HashLaws.{went-start, went-as}
+use Rattle.codes.specs.laws.EditLaws.{skip-hashed}
 use Rattle.codes.proofs.edits.hash_take.Goals as goal
 
 pub returns : goal.returns
-returns c = let s = c.before.before.before.before in
-    c.low_bits.ensures ∙ take-hashed s.args.s.now s.args.start s.args.len s.args.i s.args.h s.args.key _ _ c.hash_on-before.ensures _ _ s.requires.i_lt_len c.hash_on-behind.ensures
+returns c = let s = c.args.s in
+    let front = went-start _ _ _ _ _ _ c.start.ensures c.first.ensures.taken c.over.ensures in
+    c.cut.ensures ∙ skip-hashed s.bytes.now s.start s.len c.args.i c.args.k.h c.args.k.key _ _ front _ _ c.requires (went-as _ _ _ _ _ _ c.skip.ensures.left c.over-2.ensures)

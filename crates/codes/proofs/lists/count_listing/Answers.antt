@@ -4,34 +4,30 @@ use native.Mathlib.Omega.{arith}
 use lib.ListN.{length, get_or}
 use Rattle.codes.specs.code.Linking.{high_digits, blocks}
 use Rattle.codes.specs.laws.LinkingLaws.{listing-blocks, blocks_last, count_most, count_turn}
-use borrow.Author.Rules.{rules}
 use Rattle.codes.proofs.lists.count_listing.Goals as goal
 
 -- in a turn: the count that is added is that of the block
-turn : (c : goal.After-shared_slice_known-in-loop-h-1) → length (blocks c.args.n c.args.a c.loop-h.h)
+turn : (c : goal.After-shared_slice_known-in-loop-h-1) → length (blocks c.args.list.n c.args.list.a c.loop-h.h)
     ≡ get_or c.args.counts.now c.wanted_residue.result 0
-    + length (blocks c.args.n c.args.a (c.loop-h.h + 1))
+    + length (blocks c.args.list.n c.args.list.a (c.loop-h.h + 1))
 turn c =
     let start = c.before.before.before.before.before.before in
     let loop = c.loop-h in
     let w = c.wanted_residue in
     let p = c.power-end.ensures in
-    let l : loop.h < 2 ^ high_digits start.args.n = (let t = c.loop-h-test.true in omega arith) in
-    let e = start.requires.counted.totals w.result w.ensures.1 in
-    let t = count_turn start.args.n start.args.a loop.h w.result w.ensures.0 l in
+    let l : loop.h < 2 ^ high_digits start.args.list.n = (let t = c.loop-h-test.true in omega arith) in
+    let e = start.requires.totals w.result w.ensures.1 in
+    let t = count_turn start.args.list.n start.args.list.a loop.h w.result w.ensures.0 l in
     omega arith
 
 pub loop-h-init : goal.loop-h-init
-loop-h-init c = let args = c.args in let e = ap length (listing-blocks args.n args.a c.requires.n_bound.1) in omega arith
-
-pub bounds-counts-wanted_residue : goal.bounds-counts-wanted_residue
-bounds-counts-wanted_residue c = let q = c.requires.counted.residues in search rules
+loop-h-init c = let args = c.args in let e = ap length (listing-blocks args.list.n args.list.a c.args.list.a_le_n) in omega arith
 
 pub overflow_add-total : goal.overflow_add-total
-overflow_add-total c = let t = turn c in let m = count_most c.args.n c.args.a c.requires.n_bound.0 in let i = c.loop-h.invariant in record { fits = omega arith }
+overflow_add-total c = let t = turn c in let m = count_most c.args.list.n c.args.list.a c.args.list.few in let i = c.loop-h.invariant in record { fits = omega arith }
 
 pub loop-h-preserved : goal.loop-h-preserved
 loop-h-preserved c = let t = turn c in let i = c.loop-h.invariant in omega arith
 
 pub returns : goal.returns
-returns c = let e = ap length (blocks_last c.args.n c.args.a c.loop-h.h (let p = c.power-end.ensures in let l = c.loop-h-test.false in omega arith)) in let i = c.loop-h.invariant in omega arith
+returns c = let e = ap length (blocks_last c.args.list.n c.args.list.a c.loop-h.h (let p = c.power-end.ensures in let l = c.loop-h-test.false in omega arith)) in let i = c.loop-h.invariant in omega arith

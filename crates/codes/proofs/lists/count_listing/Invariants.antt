@@ -1,13 +1,10 @@
 -- `codes::count_listing` meets its contract: what is counted and the blocks from h on are the list. Assumes nothing.
 use mathlib.Core.Path.{◌≡◌}
-use Prim.Native.Nat.{◌+◌, ◌-◌}
+use Prim.Native.Nat.{◌+◌}
 use lib.ListN.{length}
 use Rattle.codes.specs.Listing.{listing}
 use Rattle.codes.specs.code.Linking.{blocks}
 use Rattle.codes.proofs.lists.count_listing.Given as goal
 
 abbrev pub invariant-loop-h : goal.invariant-loop-h
-invariant-loop-h l = l.total + length (blocks l.n l.a l.h) ≡ length (listing l.n l.a)
-
-abbrev pub decreases-loop-h : goal.decreases-loop-h
-decreases-loop-h l = l.end - l.h
+invariant-loop-h l = l.total + length (blocks l.list.n l.list.a l.h) ≡ length (listing l.list.n l.list.a)

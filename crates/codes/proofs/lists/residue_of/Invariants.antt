@@ -7,7 +7,4 @@ use Rattle.codes.specs.code.Linking.{residue}
 use Rattle.codes.proofs.lists.residue_of.Given as goal
 
 abbrev pub invariant-loop-i : goal.invariant-loop-i
-invariant-loop-i l = (l.i ≤ l.count) × (l.sum < l.m) × ((l.sum + weighted_sum l.k (bits_of l.i l.left)) % l.m ≡ residue l.k l.count l.m l.v)
-
-abbrev pub decreases-loop-i : goal.decreases-loop-i
-decreases-loop-i l = l.i
+invariant-loop-i l = (l.i ≤ l.count) × (l.sum < l.m.m) × ((l.sum + weighted_sum l.k (bits_of l.i l.left)) % l.m.m ≡ residue l.k l.count l.m.m l.v)

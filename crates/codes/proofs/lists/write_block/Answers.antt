@@ -5,13 +5,13 @@ use native.Mathlib.Omega.{arith}
 use lib.ListN.{length, get_or, length-set}
 use lib.Seq.{sets}
 use Rattle.codes.specs.code.Linking.{low_digits, behind}
-use Rattle.codes.specs.laws.LinkingLaws.{low-power-most, number-most, lows-last, link-first, Next, link-next, block-turn, block_last}
+use Rattle.codes.specs.laws.LinkingLaws.{low-power-most, lows-last, link-first, Next, link-next, block-turn, block_last}
 use borrow.Author.Rules.{rules}
 use Rattle.codes.proofs.lists.write_block.Goals as goal
 
 -- in a turn: there is room for one entry more, j is a low number, and what stands behind it
 turn : (c : goal.In-loop-j) → (c.loop-j.at < length c.loop-j.out) × (c.loop-j.j < 1024)
-    × Next c.args.n c.args.first.now
+    × Next c.args.list.n c.args.first.now
     c.args.next.now c.requires.linked
     c.args.r c.loop-j.j
     (get_or c.args.next.now c.loop-j.j 0)
@@ -19,65 +19,43 @@ turn c =
     let args = c.args in
     let loop = c.loop-j in
     let p = c.power-size.ensures in
-    let l : loop.j < 2 ^ low_digits args.n = (let t = c.loop-j-test.true in omega arith) in
-    let t = link-next args.n args.first.now args.next.now c.requires.linked args.r loop.j l (loop.invariant.1 l) in
+    let l : loop.j < 2 ^ low_digits args.list.n = (let t = c.loop-j-test.true in omega arith) in
+    let t = link-next args.list.n args.first.now args.next.now c.requires.linked args.r loop.j l (loop.invariant.1 l) in
     let e = ap length t.more in
     let q = c.requires.r_in_bounds in
-    let m = low-power-most args.n c.requires.n_bound.0 in
+    let m = low-power-most args.list.n c.args.list.few in
     let i = loop.invariant.2 in
     let k = loop.invariant.3 in
     (omega arith, omega arith, t)
 
-pub overflow_mul-base : goal.overflow_mul-base
-overflow_mul-base c = let e = ap (λ (x : ℕ). c.args.h * x) c.power-size.ensures in let m = number-most c.args.n c.args.h c.requires.n_bound.0 c.requires.n_bound.1 in record { fits = omega arith }
-
-pub bounds-first-r : goal.bounds-first-r
-bounds-first-r c = let q = c.requires.linked.residues in search rules
-
 pub loop-j-init : goal.loop-j-init
 loop-j-init c = let args = c.args in
-    let f = link-first args.n args.first.now args.next.now c.requires.linked args.r c.requires.n_bound.2 in
+    let f = link-first args.list.n args.first.now args.next.now c.requires.linked args.r c.requires.r_le_n in
     let e = ap length f.same in
-    (f.most, f.hit, refl, omega arith, ap (λ (x : List ℕ). sets args.out.now args.k (behind args.n args.h x)) (sym f.same))
-
-pub overflow_add-out : goal.overflow_add-out
-overflow_add-out c = let p = c.power-size.ensures in let e = ap (λ (x : ℕ). c.args.h * x) p in let m = number-most c.args.n c.args.h c.requires.n_bound.0 c.requires.n_bound.1 in record { fits = omega arith }
-
-pub overflow_cast-out : goal.overflow_cast-out
-overflow_cast-out c = let p = c.power-size.ensures in let e = ap (λ (x : ℕ). c.args.h * x) p in let m = number-most c.args.n c.args.h c.requires.n_bound.0 c.requires.n_bound.1 in record { fits = omega arith }
-
-pub offset_bounds-out-at : goal.offset_bounds-out-at
-offset_bounds-out-at c = let h = (turn c).0 in search rules
+    (f.most, f.hit, refl, omega arith, ap (λ (x : List ℕ). sets args.out.now args.k (behind args.list.n args.h x)) (sym f.same))
 
 pub bounds-out-at : goal.bounds-out-at
 bounds-out-at c = let h = (turn c).0 in search rules
 
-pub offset_bounds-next-j : goal.offset_bounds-next-j
-offset_bounds-next-j c =
-    let l : c.loop-j.j < 2 ^ low_digits c.args.n = (let p = c.power-size.ensures in let t = c.loop-j-test.true in omega arith) in
-    let m = low-power-most c.args.n c.requires.n_bound.0 in
-    let h : c.loop-j.j < 1024 = omega arith in
-    search rules
-
 pub bounds-next-j : goal.bounds-next-j
 bounds-next-j c =
-    let l : c.loop-j.j < 2 ^ low_digits c.args.n = (let p = c.power-size.ensures in let t = c.loop-j-test.true in omega arith) in
-    let m = low-power-most c.args.n c.requires.n_bound.0 in
+    let l : c.loop-j.j < 2 ^ low_digits c.args.list.n = (let p = c.power-size.ensures in let t = c.loop-j-test.true in omega arith) in
+    let m = low-power-most c.args.list.n c.args.list.few in
     let h : c.loop-j.j < 1024 = omega arith in
     search rules
 
 pub loop-j-smaller : goal.loop-j-smaller
 loop-j-smaller c =
-    let l : c.loop-j.j < 2 ^ low_digits c.args.n = (let p = c.power-size.ensures in let t = c.loop-j-test.true in omega arith) in
-    let t = link-next c.args.n c.args.first.now c.args.next.now c.requires.linked c.args.r c.loop-j.j l (c.loop-j.invariant.1 l) in
+    let l : c.loop-j.j < 2 ^ low_digits c.args.list.n = (let p = c.power-size.ensures in let t = c.loop-j-test.true in omega arith) in
+    let t = link-next c.args.list.n c.args.first.now c.args.next.now c.requires.linked c.args.r c.loop-j.j l (c.loop-j.invariant.1 l) in
     let h = t.later in let p = c.power-size.ensures in omega arith
 
 pub loop-j-preserved : goal.loop-j-preserved
 loop-j-preserved c =
-    let l : c.loop-j.j < 2 ^ low_digits c.args.n = (let p = c.power-size.ensures in let t = c.loop-j-test.true in omega arith) in
-    let t = link-next c.args.n c.args.first.now c.args.next.now c.requires.linked c.args.r c.loop-j.j l (c.loop-j.invariant.1 l) in
+    let l : c.loop-j.j < 2 ^ low_digits c.args.list.n = (let p = c.power-size.ensures in let t = c.loop-j-test.true in omega arith) in
+    let t = link-next c.args.list.n c.args.first.now c.args.next.now c.requires.linked c.args.r c.loop-j.j l (c.loop-j.invariant.1 l) in
     let args = c.args in let loop = c.loop-j in let p = c.power-size.ensures in let e = ap length t.more in
-    (t.most, t.hit, length-set loop.out loop.at _ ∙ loop.invariant.2, omega arith, block-turn args.n args.r args.h loop.at loop.j _ _ loop.out _ t.more (ap (λ (x : ℕ). args.h * x + loop.j) p) loop.invariant.4)
+    (t.most, t.hit, length-set loop.out loop.at _ ∙ loop.invariant.2, omega arith, block-turn args.list.n args.r args.h loop.at loop.j _ _ loop.out _ t.more (ap (λ (x : ℕ). args.h * x + loop.j) p) loop.invariant.4)
 
 pub returns : goal.returns
-returns c = let loop = c.loop-j in let p = c.power-size.ensures in let l : 2 ^ low_digits c.args.n ≤ loop.j = omega arith in let e = ap length (lows-last c.args.n c.args.r loop.j l) in record { out_after = block_last c.args.n c.args.r c.args.h loop.at loop.j loop.out _ l loop.invariant.4; value = omega arith }
+returns c = let loop = c.loop-j in let p = c.power-size.ensures in let l : 2 ^ low_digits c.args.list.n ≤ loop.j = omega arith in let e = ap length (lows-last c.args.list.n c.args.r loop.j l) in record { out_after = block_last c.args.list.n c.args.r c.args.h loop.at loop.j loop.out _ l loop.invariant.4; value = omega arith }

@@ -7,8 +7,8 @@ use Rattle.codes.specs.code.Linking.{low_digits, low_residue, lows, behind}
 use Rattle.codes.proofs.lists.write_block.Given as goal
 
 abbrev pub invariant-loop-j : goal.invariant-loop-j
-invariant-loop-j l = (l.j ≤ 2 ^ low_digits l.n) × (l.j < 2 ^ low_digits l.n → low_residue l.n l.j ≡ l.r) × (length l.out ≡ length l.initial.out) × (l.at + length (lows l.n l.r l.j) ≡ l.k + length (lows l.n l.r 0))
-    × (sets l.out l.at (behind l.n l.h (lows l.n l.r l.j)) ≡ sets l.initial.out l.k (behind l.n l.h (lows l.n l.r 0)))
+invariant-loop-j l = (l.j ≤ 2 ^ low_digits l.fn.list.n) × (l.j < 2 ^ low_digits l.fn.list.n → low_residue l.fn.list.n l.j ≡ l.r) × (length l.out ≡ length l.initial.out) × (l.at + length (lows l.fn.list.n l.r l.j) ≡ l.k + length (lows l.fn.list.n l.r 0))
+    × (sets l.out l.at (behind l.fn.list.n l.h (lows l.fn.list.n l.r l.j)) ≡ sets l.initial.out l.k (behind l.fn.list.n l.h (lows l.fn.list.n l.r 0)))
 
 abbrev pub decreases-loop-j : goal.decreases-loop-j
-decreases-loop-j l = 2 ^ low_digits l.n - l.j
+decreases-loop-j l = 2 ^ low_digits l.fn.list.n - l.j

@@ -1,6 +1,6 @@
 -- `codes::write_listing` meets its contract: what is stored and the blocks from h on are the list. Assumes nothing.
 use mathlib.Core.Path.{◌≡◌}
-use Prim.Native.Nat.{◌+◌, ◌-◌}
+use Prim.Native.Nat.{◌+◌}
 use lib.ListN.{length}
 use lib.Seq.{sets}
 use Rattle.codes.specs.Listing.{listing}
@@ -8,7 +8,4 @@ use Rattle.codes.specs.code.Linking.{blocks}
 use Rattle.codes.proofs.lists.write_listing.Given as goal
 
 abbrev pub invariant-loop-h : goal.invariant-loop-h
-invariant-loop-h l = (length l.out ≡ length l.initial.out) × (l.k + length (blocks l.n l.a l.h) ≡ length (listing l.n l.a)) × (sets l.out l.k (blocks l.n l.a l.h) ≡ sets l.initial.out 0 (listing l.n l.a))
-
-abbrev pub decreases-loop-h : goal.decreases-loop-h
-decreases-loop-h l = l.end - l.h
+invariant-loop-h l = (length l.out ≡ length l.initial.out) × (l.k + length (blocks l.list.n l.list.a l.h) ≡ length (listing l.list.n l.list.a)) × (sets l.out l.k (blocks l.list.n l.list.a l.h) ≡ sets l.initial.out 0 (listing l.list.n l.list.a))

@@ -11,7 +11,7 @@ use Rattle.codes.proofs.markers.gather_message.Given as goal
 -- the message from place p on is written from bit `at` on
 abbrev pub invariant-loop-p : goal.invariant-loop-p
 invariant-loop-p l = (0 < l.p) × (is_power l.p ≡ true) × (l.at + others_from l.n l.p ≡ message_bits l.n) × (length l.out ≡ length l.initial.out)
-    × (write_bits l.out l.at (message_from l.s l.n l.p) ≡ write_bits l.initial.out 0 (message 1 (range l.s 0 l.n)))
+    × (write_bits l.out l.at (message_from l.w.bytes.now l.n l.p) ≡ write_bits l.initial.out 0 (message 1 (range l.w.bytes.now 0 l.n)))
 
 abbrev pub decreases-loop-p : goal.decreases-loop-p
 decreases-loop-p l = l.n + 1 - l.p

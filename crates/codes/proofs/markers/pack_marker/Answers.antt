@@ -11,22 +11,20 @@ use Rattle.codes.specs.laws.MarkerLaws.{length_merged}
 use Rattle.codes.specs.laws.MarkerEntryLaws.{range-syndrome-most, marker-packed}
 use Rattle.codes.proofs.markers.pack_marker.Goals as goal
 
-pub subtract_modulo-v-requires : goal.subtract_modulo-v-requires
-subtract_modulo-v-requires c =
-    let few = c.requires.n_le_max_marker_bits.0 in
-    let below = c.requires.n_le_max_marker_bits.1 in
-    let most = range-syndrome-most _ 0 c.args.n c.syndrome_of-sum.result c.syndrome_of-sum.ensures in
-    record { m_bound = omega arith; a_lt_m = omega arith; x_lt_m = omega arith }
+pub subtract-v-requires-clause-x_lt_m : goal.subtract-v-requires-clause-x_lt_m
+subtract-v-requires-clause-x_lt_m c = let most = range-syndrome-most _ 0 c.args.w.n c.syndrome_of-sum.result c.syndrome_of-sum.ensures in
+    let m = c.new.ensures in
+    omega arith
 
 pub returns : goal.returns
 returns c = let written = c.write_number.ensures in
-    let number = c.subtract_modulo-v in
+    let number = c.subtract-v in
     let sum = c.syndrome_of-sum in
     let spread = c.spread_message.ensures in
     let zeros = c.clear_bytes.ensures in
     let args = c.args in
     let out = args.out.now in
-    let m = range args.m.now 0 (message_bits args.n) in
-    let word = merged args.n 1 0 m in
-    let packed = spread ∙ ap (λ (x : List ℕ). write_bits x 0 word) zeros ∙ packed-into out word args.n (length_merged args.n 1 0 m) c.requires.n_in_bounds in
-    marker-packed args.n args.a m (range_length _ _ _) out _ packed sum.result number.result _ sum.ensures number.ensures written
+    let m = range args.m.now 0 (message_bits args.w.n) in
+    let word = merged args.w.n 1 0 m in
+    let packed = spread ∙ ap (λ (x : List ℕ). write_bits x 0 word) zeros ∙ packed-into out word args.w.n (length_merged args.w.n 1 0 m) c.requires.n_in_bounds in
+    marker-packed args.w.n args.a m (range_length _ _ _) out _ packed sum.result number.result _ sum.ensures c.new.ensures number.ensures written

@@ -1,31 +1,24 @@
 -- `codes::zero_out` meets its contract. Assumes nothing.
 use mathlib.Core.Path.{sym, ◌∙◌}
 use native.Mathlib.Omega.{arith}
-use Rattle.strings.specs.Bits.{range}
+use borrow.Author.Rules.{rules}
+use Rattle.strings.specs.Ranges.{bits}
 use Rattle.strings.proofs.laws.RangeLaws.{range_length, range_at}
 use Rattle.codes.specs.laws.PlaceLaws.{zero-out-above, zero-out-none, zero-out-found}
 use Rattle.codes.proofs.places.zero_out.Goals as goal
 
-pub returns-then-w-r : goal.returns-then-w-r
-returns-then-w-r c = let args = c.args in
-    let w = c.requires.w_value in
-    let h = c.if-w-r.true in
-    zero-out-above (range args.s.now args.start args.len) args.len (range_length _ _ _) args.r (omega arith)
+pub returns-then-w-r-clause-first : goal.returns-then-w-r-clause-first
+returns-then-w-r-clause-first c = zero-out-above (bits c.args.s) c.args.s.len (range_length _ _ _) c.args.r (omega arith)
 
-pub returns-then-len-p : goal.returns-then-len-p
-returns-then-len-p c = let args = c.args in
-    let h = c.if-len-p.true in
-    zero-out-none (range args.s.now args.start args.len) args.len (range_length _ _ _) args.r c.zero_place-p.result c.zero_place-p.ensures (λ k. absurd (omega arith))
+pub returns-then-s-p-clause-first : goal.returns-then-s-p-clause-first
+returns-then-s-p-clause-first c = let s = c.args.s in
+    let p = c.zero_place-p in
+    zero-out-none (bits s) s.len (range_length _ _ _) c.args.r p.result p.ensures (λ k. range_at s.bytes.now s.start s.len p.result k ∙ search rules)
 
-pub returns-then-get_bit : goal.returns-then-get_bit
-returns-then-get_bit c = let args = c.args in
-    let zero-place = c.zero_place-p in
-    zero-out-none (range args.s.now args.start args.len) args.len (range_length _ _ _) args.r zero-place.result zero-place.ensures (λ k. range_at args.s.now args.start args.len zero-place.result k ∙ sym c.get_bit.ensures ∙ c.if-get_bit.true)
-
-pub returns : goal.returns
-returns c = let args = c.args in
-    let w = c.requires.w_value in
+pub returns-clause-first : goal.returns-clause-first
+returns-clause-first c = let s = c.args.s in
+    let p = c.zero_place-p in
+    let w = c.requires in
     let h = c.if-w-r.false in
-    let within = c.if-len-p.false in
-    let zero-place = c.zero_place-p in
-    zero-out-found (range args.s.now args.start args.len) args.len (range_length _ _ _) args.r zero-place.result zero-place.ensures (omega arith) within (range_at args.s.now args.start args.len zero-place.result within ∙ sym c.get_bit.ensures ∙ c.if-get_bit.false)
+    let within = c.if-s-p.false in
+    zero-out-found (bits s) s.len (range_length _ _ _) c.args.r p.result p.ensures (omega arith) within (range_at s.bytes.now s.start s.len p.result within ∙ sym c.get.ensures ∙ c.if-get.false)

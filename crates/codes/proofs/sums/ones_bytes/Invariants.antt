@@ -1,12 +1,9 @@
 -- `codes::ones_bytes` meets its contract: what was counted are the ones before byte i. Assumes nothing.
-use Prim.Native.Nat.{◌-◌, ◌*◌, ◌≤◌}
+use Prim.Native.Nat.{◌*◌}
 use mathlib.Core.Path.{◌≡◌}
 use Rattle.strings.specs.Bits.{range}
 use Rattle.codes.specs.code.Place.{ones}
 use Rattle.codes.proofs.sums.ones_bytes.Given as goal
 
 abbrev pub invariant-loop-i : goal.invariant-loop-i
-invariant-loop-i l = (l.i ≤ l.count) × (l.n ≡ ones (range l.s l.start (8 * l.i))) × (l.n ≤ 8 * l.i)
-
-abbrev pub decreases-loop-i : goal.decreases-loop-i
-decreases-loop-i l = l.count - l.i
+invariant-loop-i l = l.n ≡ ones (range l.s.bytes.now l.s.start (8 * l.i))

@@ -1,10 +1,6 @@
-use Rattle.strings.specs.Results.{and_then}
-use Rattle.messages.specs.Answers.{said_answer}
-use mathlib.Core.Path.{◌≡◌, sym, ◌∙◌}
-use mathlib.Core.Option.{some}
+use mathlib.Core.Path.{sym, ◌∙◌}
 use native.Mathlib.Omega.{arith}
 use lib.ListN.{length}
-use Rattle.ends.specs.RebuilderCall.{awaits, given}
 use Rattle.ends.specs.RebuilderOutcome.{capacities}
 use Rattle.ends.specs.code.RebuilderParts.{Due}
 use Rattle.ends.specs.laws.SoundParts.{sound-is}
@@ -12,10 +8,10 @@ use Rattle.ends.specs.code.RebuilderCallLaws.{burst-most, due, awaits-hears, hea
 use borrow.Author.Rules.{rules}
 use Rattle.ends.proofs.rebuilding.hear.Goals as goal
 
-pub read_answer-read-requires : goal.read_answer-read-requires
-read_answer-read-requires c = let s = c in
+pub read_answer-requires : goal.read_answer-requires
+read_answer-requires c = let s = c in
     let m = burst-most s.args.st s.args.q s.requires.0 s.requires.1 in
-    let e = c.question_burst-b.ensures in
+    let e = c.awaited-kind.ensures.2 in
     omega arith
 
 pub is_enough_for_answer-requires : goal.is_enough_for_answer-requires
@@ -23,27 +19,15 @@ is_enough_for_answer-requires c = let s = c in
     let f = (sound-is s.args.st s.requires.0).0.limits.m-least in omega arith
 
 pub returns-then-not-is_enough_for_answer : goal.returns-then-not-is_enough_for_answer
-returns-then-not-is_enough_for_answer c =
-    let heard' : (let a = c.args in let r = capacities (length a.string.now) a.rows (length a.question.now) in
-    awaits a.st a.y.now a.msg.now r (some a.q) ≡ and_then (said_answer a.msg.now c.question_length-len.result c.question_burst-b.result c.read_answer-read.result) (given a.st a.y.now a.msg.now r)) = let a = c.args in
-    awaits-hears a.st _ a.q _ _ _ c.read_answer-read.result c.question_length-len.ensures c.question_burst-b.ensures c.question_kind-kind.ensures c.read_answer-read.ensures.result_value a.y.now (capacities (length a.string.now) a.rows (length a.question.now)) in
-    let due-now' : (let a = c.args in Due a.st a.msg.now c.question_length-len.result c.question_burst-b.result c.read_answer-read.result) = let s = c in
-    due s.args.st _ s.args.q _ _ _ c.read_answer-read.result c.question_length-len.ensures c.question_burst-b.ensures c.question_kind-kind.ensures c.read_answer-read.ensures.result_value s.requires.0 s.requires.1 (search rules) (λ i. (c.type_inv.msg i).fits) c.read_answer-read.ensures.bits_there in
-    let a = c.args in
-    refused-said a.st _ _ _ c.refuse.ensures (heard' ∙ hears-short a.st _ _ _ _ (due-now') _ _ (sym c.is_enough_for_answer.ensures ∙ c.if-not-is_enough_for_answer.true))
-
-pub take-requires : goal.take-requires
-take-requires c =
-    let due-now' : (let a = c.args in Due a.st a.msg.now c.question_length-len.result c.question_burst-b.result c.read_answer-read.result) = let s = c in
-    due s.args.st _ s.args.q _ _ _ c.read_answer-read.result c.question_length-len.ensures c.question_burst-b.ensures c.question_kind-kind.ensures c.read_answer-read.ensures.result_value s.requires.0 s.requires.1 (search rules) (λ i. (c.type_inv.msg i).fits) c.read_answer-read.ensures.bits_there in
-    let s = c in record { due = due-now'; by_index = (s.args.rows, sym c.is_enough_for_answer.ensures ∙ c.if-not-is_enough_for_answer.false); ybits_bound = s.requires.2 }
+returns-then-not-is_enough_for_answer c = let a = c.args in
+    let heard = awaits-hears a.st _ a.q _ _ _ c.read_answer.result c.awaited-kind.ensures.1 c.awaited-kind.ensures.2 c.awaited-kind.ensures.0 c.read_answer.ensures.result_value a.y.now (capacities (length a.string.now) a.rows (length a.question.now)) _ c.in-Ok.is in
+    let due-now : Due a.st a.msg.now c.awaited-kind.result.1 c.awaited-kind.result.2 c.in-Ok.found =
+    due a.st _ a.q _ _ _ c.read_answer.result c.awaited-kind.ensures.1 c.awaited-kind.ensures.2 c.awaited-kind.ensures.0 c.read_answer.ensures.result_value c.requires.0 c.requires.1 (search rules) (λ i. (c.type_inv.msg i).fits) c.read_answer.ensures.bits_there _ c.in-Ok.is in
+    refused-said a.st _ _ _ c.refuse-then-not-is_enough_for_answer.ensures (heard ∙ hears-short a.st _ _ _ _ due-now _ _ (sym c.is_enough_for_answer.ensures ∙ c.if-not-is_enough_for_answer.true))
 
 pub returns : goal.returns
-returns c =
-    let heard' : (let a = c.args in let r = capacities (length a.string.now) a.rows (length a.question.now) in
-    awaits a.st a.y.now a.msg.now r (some a.q) ≡ and_then (said_answer a.msg.now c.question_length-len.result c.question_burst-b.result c.read_answer-read.result) (given a.st a.y.now a.msg.now r)) = let a = c.args in
-    awaits-hears a.st _ a.q _ _ _ c.read_answer-read.result c.question_length-len.ensures c.question_burst-b.ensures c.question_kind-kind.ensures c.read_answer-read.ensures.result_value a.y.now (capacities (length a.string.now) a.rows (length a.question.now)) in
-    let due-now' : (let a = c.args in Due a.st a.msg.now c.question_length-len.result c.question_burst-b.result c.read_answer-read.result) = let s = c in
-    due s.args.st _ s.args.q _ _ _ c.read_answer-read.result c.question_length-len.ensures c.question_burst-b.ensures c.question_kind-kind.ensures c.read_answer-read.ensures.result_value s.requires.0 s.requires.1 (search rules) (λ i. (c.type_inv.msg i).fits) c.read_answer-read.ensures.bits_there in
-    let a = c.args in
-    taken-said a.st _ _ (heard' ∙ hears-long a.st _ _ _ _ (due-now') _ _ (sym c.is_enough_for_answer.ensures ∙ c.if-not-is_enough_for_answer.false)) c.take.ensures
+returns c = let a = c.args in
+    let heard = awaits-hears a.st _ a.q _ _ _ c.read_answer.result c.awaited-kind.ensures.1 c.awaited-kind.ensures.2 c.awaited-kind.ensures.0 c.read_answer.ensures.result_value a.y.now (capacities (length a.string.now) a.rows (length a.question.now)) _ c.in-Ok.is in
+    let due-now : Due a.st a.msg.now c.awaited-kind.result.1 c.awaited-kind.result.2 c.in-Ok.found =
+    due a.st _ a.q _ _ _ c.read_answer.result c.awaited-kind.ensures.1 c.awaited-kind.ensures.2 c.awaited-kind.ensures.0 c.read_answer.ensures.result_value c.requires.0 c.requires.1 (search rules) (λ i. (c.type_inv.msg i).fits) c.read_answer.ensures.bits_there _ c.in-Ok.is in
+    taken-said a.st _ _ (heard ∙ hears-long a.st _ _ _ _ due-now _ _ (sym c.is_enough_for_answer.ensures ∙ c.if-not-is_enough_for_answer.false)) c.take.ensures

@@ -30,16 +30,16 @@ overflow_cast-bits c =
     let a = c.args in
     record { fits = start_small a.settings a.y.now a.bits a.question.now (limits-kept') (string-kept') }
 
-pub returns-in-TooShort : goal.returns-in-TooShort
-returns-in-TooShort c =
+pub returns-in-Err : goal.returns-in-Err
+returns-in-Err c =
     let string-kept' : (let a = c.args in string_rule a.y.now a.bits ≡ true) = sym c.keeps_string_rule.ensures ∙ c.if-not-keeps_string_rule.false in
     let limits-kept' : (within_limits c.args.settings ≡ true) = sym c.is_within_limits.ensures ∙ c.if-not-is_within_limits.false in
     let a = c.args in
-    absurd (start_fits a.settings a.y.now a.bits a.question.now (limits-kept') (string-kept') (let h = c.if-question-lt-QUESTION_BYTES.false in omega arith) _ _ c.write_question.ensures c.in-TooShort.is)
+    absurd (start_fits a.settings a.y.now a.bits a.question.now (limits-kept') (string-kept') (let h = c.if-question-lt-QUESTION_BYTES.false in omega arith) _ _ c.write_question.ensures c.in-Err.is)
 
-pub returns-in-Written : goal.returns-in-Written
-returns-in-Written c =
+pub returns-in-Ok : goal.returns-in-Ok
+returns-in-Ok c =
     let string-kept' : (let a = c.args in string_rule a.y.now a.bits ≡ true) = sym c.keeps_string_rule.ensures ∙ c.if-not-keeps_string_rule.false in
     let limits-kept' : (within_limits c.args.settings ≡ true) = sym c.is_within_limits.ensures ∙ c.if-not-is_within_limits.false in
     let a = c.args in
-    start-begun a.settings a.y.now a.bits a.question.now (limits-kept') (string-kept') (let h = c.if-question-lt-QUESTION_BYTES.false in omega arith) _ _ c.write_question.ensures c.in-Written.is c.fresh_rebuilder.ensures
+    start-begun a.settings a.y.now a.bits a.question.now (limits-kept') (string-kept') (let h = c.if-question-lt-QUESTION_BYTES.false in omega arith) _ _ c.write_question.ensures c.in-Ok.is c.fresh_rebuilder.ensures

@@ -1,7 +1,9 @@
-use Rattle.ends.proofs.code.SheetCallLaws.{clear-turn}
+use Rattle.std.proofs.Common.{◌≡◌, ◌-◌, replicate, rules}
+use Rattle.ends.specs.RebuilderCall.{no_row}
+use Rattle.ends.proofs.code.SheetCallLaws.{rows-cleared}
 use Rattle.ends.proofs.sheet.clear_rows.Goals as goal
 
-pub loop-i-preserved : goal.loop-i-preserved
-loop-i-preserved c =
-    clear-turn c.args.from c.args.to c.args.sheet.now c.loop-i.sheet c.write_row.new.sheet c.loop-i.i c.no_row-zeros.result
-    c.loop-i-test.true c.no_row-zeros.ensures c.write_row.ensures c.loop-i.invariant
+pub returns-then-from-to : goal.returns-then-from-to
+returns-then-from-to c =
+    let e : c.fill.new.self ≡ replicate (c.args.to - c.args.from) no_row = search rules in
+    rows-cleared _ _ c.args.from c.args.to c.if-from-to.true c.requires e

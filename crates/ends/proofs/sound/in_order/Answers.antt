@@ -11,20 +11,20 @@ pub loop-i-init : goal.loop-i-init
 loop-i-init c = (search rules, ap₂ (λ (n e : ℕ). in_order n e 0 0 (held c.args.st.waiting c.args.st.pieces)) c.wide-n.ensures.0 c.wide-e.ensures.0)
 
 pub returns-then-not-piece_fits : goal.returns-then-not-piece_fits
-returns-then-not-piece_fits c = let at-loop = c.before.before.before.before in
-    let at-wide2 = at-loop.before in
-    let at_wide = at-wide2.before in
-    let s = at_wide.before in
+returns-then-not-piece_fits c = let at-loop = c in
+    let at-wide2 = at-loop in
+    let at_wide = at-wide2 in
+    let s = at_wide in
     sym (order-not at_wide.wide-n.result at-wide2.wide-e.result at-loop.loop-i.x at-loop.loop-i.y s.args.st.pieces at-loop.loop-i.i c.loop-i-test.true c.piece_fits.result c.piece_fits.ensures (c.if-not-piece_fits.true)) ∙ at-loop.loop-i.invariant.1
 
 pub loop-i-preserved : goal.loop-i-preserved
-loop-i-preserved c = let at-if1 = c.before.before.before.before in
-    let at-piece-fits = at-if1.before in
-    let at-loop-test = at-piece-fits.before.before in
-    let at-loop = at-loop-test.before in
-    let at-wide2 = at-loop.before in
-    let at_wide = at-wide2.before in
-    let s = at_wide.before in
+loop-i-preserved c = let at-if1 = c in
+    let at-piece-fits = at-if1 in
+    let at-loop-test = at-piece-fits in
+    let at-loop = at-loop-test in
+    let at-wide2 = at-loop in
+    let at_wide = at-wide2 in
+    let s = at_wide in
     let a = c.wide.ensures.0 in
     let b = c.wide-in-loop-i.ensures.0 in
     let d = c.wide-in-loop-i-2.ensures.0 in

@@ -8,6 +8,3 @@ abbrev pub invariant-loop-i : goal.invariant-loop-i
 invariant-loop-i l = (l.i ≤ l.st.waiting)
     × (l.sum + work_left l.a l.b l.st.settings.m (held l.i l.st.pieces) ≡ work_left l.a l.b l.st.settings.m (held l.st.waiting l.st.pieces))
     × (l.sum ≤ (l.st.waiting - l.i) * 68719476736)
-
-abbrev pub decreases-loop-i : goal.decreases-loop-i
-decreases-loop-i l = l.i

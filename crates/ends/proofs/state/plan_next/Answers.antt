@@ -1,16 +1,12 @@
 use Rattle.ends.specs.declared.Phase.TheVariants.{AtPieces}
 use Rattle.ends.specs.code.StateCode.{plan-at}
 use mathlib.Core.Path.{refl}
-use native.Mathlib.Omega.{arith}
 use borrow.Author.Tests.{eq-eqb, ne_eqb}
 use Rattle.ends.specs.States.{planned}
 use Rattle.ends.proofs.state.plan_next.Goals as goal
 
 pub returns-then-st-eq0 : goal.returns-then-st-eq0
 returns-then-st-eq0 c = plan-at c.args.st AtPieces c.in-AtPieces.is (simp (eq-eqb _ _ c.if-st-eq0.true))
-
-pub ask_for-requires : goal.ask_for-requires
-ask_for-requires c = let a = c.requires.asks c.in-AtPieces.is (let n = c.if-st-eq0.false in omega arith) in rw c.top-t.ensures a
 
 pub returns-in-AtOpening : goal.returns-in-AtOpening
 unfolding planned
@@ -21,5 +17,4 @@ unfolding planned
 returns-in-AtWhole c = rw c.in-AtWhole.is refl
 
 pub returns-else-st-eq0 : goal.returns-else-st-eq0
-returns-else-st-eq0 c = let s = c.before.before.before.before.before.before in
-    plan-at s.args.st AtPieces c.in-AtPieces.is (simp (ne_eqb _ _ c.if-st-eq0.false, c.ask_for.ensures, c.top-t.ensures))
+returns-else-st-eq0 c = plan-at c.args.st AtPieces c.in-AtPieces.is (simp (ne_eqb _ _ c.if-st-eq0.false, c.ask_for.ensures, c.top.ensures))

@@ -1,14 +1,11 @@
-use Rattle.ends.specs.code.RebuilderCodeLaws.{holds, text-part, piece-part, piece-text, step-said, step-bits, settled-said}
+use Rattle.ends.specs.code.RebuilderCodeLaws.{text-part, piece-part, piece-text, step-said, step-bits, settled-said}
 use Rattle.ends.proofs.steps.take_piece.Goals as goal
 
-pub top-t-requires : goal.top-t-requires
-top-t-requires c = holds c.args.st _ _ c.requires.acting
+pub invariant_of-copy_bits : goal.invariant_of-copy_bits
+invariant_of-copy_bits c = record { part = piece-part c.args.turn.st _ _ c.args.turn.acting c.piece-t.ensures _ c.requires.st_bound }
 
 pub copy_bits-requires : goal.copy_bits-requires
-copy_bits-requires c = let s = c.before.before.before.before.before.before.before in record { part = piece-part s.args.st _ _ s.requires.acting c.top-t.ensures _ s.requires.st_bound; part_2 = text-part s.args.st _ _ s.requires.acting c.top-t.ensures _ s.requires.n_bound.0 }
+copy_bits-requires c = text-part c.args.turn.st _ _ c.args.turn.acting c.piece-t.ensures _ c.requires.string_room
 
 pub returns : goal.returns
-returns c = let at-copy-bits = c.before.before.before.before.before.before in
-    let at_top = at-copy-bits.before.before.before.before in
-    let s = at_top.before.before.before.before in
-    λ y. step-said s.args.st _ _ (step-bits s.args.st y _ s.requires.acting.phase _ s.requires.n_bound.1) (settled-said s.args.st _ _ _ _ c.settle.ensures (piece-text s.args.st _ _ s.requires.acting at_top.top-t.ensures _ _ at-copy-bits.copy_bits.ensures))
+returns c = λ y. step-said c.args.turn.st _ _ (step-bits c.args.turn.st y _ c.args.turn.acting.phase _ c.requires.stage_value) (settled-said c.args.turn.st _ _ _ _ c.settle.ensures (piece-text c.args.turn.st _ _ c.args.turn.acting c.piece-t.ensures _ _ c.copy_bits.ensures))

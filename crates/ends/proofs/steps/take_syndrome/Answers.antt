@@ -1,30 +1,18 @@
 use Rattle.messages.specs.Answers.{syndrome_answer}
-use Rattle.ends.specs.code.RebuilderCodeLaws.{holds, copy-short, copy-part, text-part, apart, narrow, repair-early, repair-tried, repaired-out, step-syndrome, try-yes, try-no}
+use Rattle.ends.specs.code.RebuilderCodeLaws.{copy-short, copy-part, text-part, apart, repair-tried, repaired-out, step-syndrome, try-yes, try-no}
 use Rattle.ends.proofs.steps.take_syndrome.Goals as goal
 
-pub top-t-requires : goal.top-t-requires
-top-t-requires c = let s = c.before.before.before in holds s.args.st _ _ s.requires.acting
-
 pub repair_how-how-requires : goal.repair_how-how-requires
-repair_how-how-requires c = let s = c.before.before.before.before.before.before.before.before in copy-short s.args.st _ _ s.requires.acting c.top-t.ensures
+repair_how-how-requires c = copy-short c.args.turn.st _ _ c.args.turn.acting c.piece-t.ensures
+
+pub invariant_of-copy : goal.invariant_of-copy
+invariant_of-copy c = record { part = copy-part c.args.turn.st _ _ c.args.turn.acting c.piece-t.ensures _ c.args.turn.copy }
 
 pub try_repair-requires : goal.try_repair-requires
-try_repair-requires c = let tp = c.top-t.ensures in
-    let s = c.before.before.before.before.before.before.before.before.before.before in record { part = copy-part s.args.st _ _ s.requires.acting tp _ s.requires.lending.copy; part_2 = text-part s.args.st _ _ s.requires.acting tp _ s.requires.lending.text; one_apart = apart s.args.st _ _ s.requires.acting tp s.requires.repair_due; h_bound = narrow s.args.st _ _ s.requires.acting tp }
+try_repair-requires c = record { part = text-part c.args.turn.st _ _ c.args.turn.acting c.piece-t.ensures _ c.requires.string_room; one_apart = apart c.args.turn.st _ _ c.args.turn.acting c.piece-t.ensures c.requires.repair_due }
 
 pub returns-then-try_repair : goal.returns-then-try_repair
-returns-then-try_repair c = let at-try = c.before.before.before.before.before.before.before in
-    let at-how = at-try.before.before in
-    let tp = at-how.top-t.ensures in
-    let s = at-how.before.before.before.before.before.before.before.before.before in
-    try-yes s.args.st _ _ s.args.v _ _ (syndrome_answer s.args.a s.args.v) (step-syndrome s.args.st _ _ s.requires.acting.phase s.args.a s.args.v s.requires.repair_due) _ _ _ (repair-tried s.args.st _ tp _ _ _ _ _ _ s.args.a at-try.try_repair.ensures) c.if-try_repair.true (repaired-out s.args.st tp at-how.repair_how-how.ensures c.settle.ensures)
-
-pub leave_waiting-requires : goal.leave_waiting-requires
-leave_waiting-requires c = let s = c.before.before.before.before.before.before.before.before.before.before.before.before.before.before.before in record { acting = s.requires.acting; retriable = repair-early s.args.st s.requires.repair_due }
+returns-then-try_repair c = try-yes c.args.turn.st _ _ c.args.v _ _ (syndrome_answer c.args.a c.args.v) (step-syndrome c.args.turn.st _ _ c.args.turn.acting.phase c.args.a c.args.v c.requires.repair_due) _ _ _ (repair-tried c.args.turn.st _ c.piece-t.ensures _ _ _ _ _ _ c.args.a (let x = c.try_repair.ensures in rw (c.hash_key-k.ensures.0, c.hash_key-k.ensures.1) at x)) c.if-try_repair.true (repaired-out c.args.turn.st c.piece-t.ensures c.repair_how-how.ensures c.settle.ensures)
 
 pub returns : goal.returns
-returns c = let at-try = c.before.before.before.before.before.before.before in
-    let at-how = at-try.before.before in
-    let tp = at-how.top-t.ensures in
-    let s = at-how.before.before.before.before.before.before.before.before.before in
-    try-no s.args.st _ _ s.args.v _ _ (syndrome_answer s.args.a s.args.v) (step-syndrome s.args.st _ _ s.requires.acting.phase s.args.a s.args.v s.requires.repair_due) _ _ _ (repair-tried s.args.st _ tp _ _ _ _ _ _ s.args.a at-try.try_repair.ensures) c.if-try_repair.false c.leave_waiting.ensures
+returns c = try-no c.args.turn.st _ _ c.args.v _ _ (syndrome_answer c.args.a c.args.v) (step-syndrome c.args.turn.st _ _ c.args.turn.acting.phase c.args.a c.args.v c.requires.repair_due) _ _ _ (repair-tried c.args.turn.st _ c.piece-t.ensures _ _ _ _ _ _ c.args.a (let x = c.try_repair.ensures in rw (c.hash_key-k.ensures.0, c.hash_key-k.ensures.1) at x)) c.if-try_repair.false c.leave_waiting.ensures

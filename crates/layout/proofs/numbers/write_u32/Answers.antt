@@ -1,16 +1,6 @@
-use native.Mathlib.Omega.{arith}
-use lib.ListN.{length-set}
-use Rattle.layout.specs.laws.Bytes32Laws.{four-stores}
+use Rattle.std.proofs.Common.{◌∙◌}
+use Rattle.layout.proofs.Stores.{number-stored}
 use Rattle.layout.proofs.numbers.write_u32.Goals as goal
 
-pub bounds-s-at-2 : goal.bounds-s-at-2
-bounds-s-at-2 c = simp length-set (omega arith)
-
-pub bounds-s-at-3 : goal.bounds-s-at-3
-bounds-s-at-3 c = simp length-set (omega arith)
-
-pub bounds-s-at-4 : goal.bounds-s-at-4
-bounds-s-at-4 c = simp length-set (omega arith)
-
 pub returns : goal.returns
-returns c = four-stores c.args.s.now c.args.at c.args.v
+returns c = number-stored _ _ c.args.at c.args.v c.requires (c.copy_from_slice.ensures.after ∙ c.to_le_bytes.ensures)

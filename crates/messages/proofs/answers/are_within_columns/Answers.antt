@@ -1,28 +1,6 @@
-use borrow.Author.Rules.{rules}
-use mathlib.Core.Path.{◌≡◌, refl, sym, ◌∙◌}
-use native.Mathlib.Omega.{arith}
-use lib.ListN.{length}
-use Rattle.messages.specs.code.Reading.{within_end, within-fails, within-turn}
+use Rattle.std.proofs.Common.{arith}
+use Rattle.messages.specs.code.Reading.{tested-fails}
 use Rattle.messages.proofs.answers.are_within_columns.Goals as goal
 
--- src/answers.rt:181:5
-pub loop-j-init : goal.loop-j-init
-loop-j-init c = (omega arith, refl)
-
--- src/answers.rt:183:13
-pub returns-then-column_length-a : goal.returns-then-column_length-a
-returns-then-column_length-a c = let n : ◌≡◌ (length c.args.a) 32 = search rules in
-    let few = c.requires in
-    within-fails c.args.a c.args.b c.args.len c.loop-j.j (omega arith) c.loop-j-test.true c.column_length.ensures c.loop-j.invariant.1 c.if-column_length-a.true
-
--- src/answers.rt:181:5
-pub loop-j-preserved : goal.loop-j-preserved
-loop-j-preserved c = let n : ◌≡◌ (length c.args.a) 32 = search rules in
-    let few = c.requires in
-    (omega arith, within-turn c.args.a c.args.b c.args.len c.loop-j.j (omega arith) c.loop-j-test.true c.column_length.ensures c.loop-j.invariant.1 c.if-column_length-a.false)
-
--- src/answers.rt:176:1
-pub returns : goal.returns
-returns c = let n : ◌≡◌ (length c.args.a) 32 = search rules in
-    let few = c.requires in
-    sym (within_end c.args.a c.args.b c.args.len c.loop-j.j (omega arith) c.loop-j-test.false) ∙ c.loop-j.invariant.1
+pub returns-then-column_length-v : goal.returns-then-column_length-v
+returns-then-column_length-v c = let l = c.loop-j in tested-fails c.args.a.now _ c.args.len l.j (omega arith) c.column_length.ensures l.invariant c.if-column_length-v.true

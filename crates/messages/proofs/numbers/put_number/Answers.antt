@@ -1,19 +1,13 @@
 use borrow.Author.Rules.{rules}
-use mathlib.Core.Path.{refl, ◌∙◌}
+use mathlib.Core.Path.{◌∙◌}
 use Prim.Native.Nat.{◌+◌, ◌%◌}
 use native.Mathlib.Omega.{arith}
 use lib.ListN.{length-set}
 use Rattle.messages.specs.laws.NumberLaws.{size-last, size-next, size-some, write-turn, write-last}
 use Rattle.messages.proofs.numbers.put_number.Goals as goal
 
-pub loop-w-init : goal.loop-w-init
-loop-w-init c = (refl, refl, search rules, refl)
-
 pub bounds-buf-i : goal.bounds-buf-i
 bounds-buf-i c = omega (arith, size-some c.loop-w.w)
-
-pub overflow_add-i : goal.overflow_add-i
-overflow_add-i c = omega (arith, size-some c.loop-w.w)
 
 pub loop-w-preserved : goal.loop-w-preserved
 loop-w-preserved c = let loop = c.loop-w in
@@ -23,9 +17,6 @@ loop-w-preserved c = let loop = c.loop-w in
 
 pub bounds-buf-i-2 : goal.bounds-buf-i-2
 bounds-buf-i-2 c = omega (arith, size-some c.loop-w.w)
-
-pub overflow_add-result : goal.overflow_add-result
-overflow_add-result c = omega (arith, size-some c.loop-w.w)
 
 pub returns : goal.returns
 returns c = let l = c.loop-w in

@@ -6,4 +6,4 @@ pub returns : goal.returns
 returns c = let a = c.args in
     let clear-bytes = c.clear_bytes in
     let copy-bits = c.copy_bits in
-    bits-first a.x.now a.buf.now _ _ a.start a.len (search rules) clear-bytes.ensures copy-bits.ensures
+    bits-first a.piece.bytes.now a.buf.now _ _ a.piece.start a.piece.len (search rules) clear-bytes.ensures copy-bits.ensures

@@ -1,0 +1,8 @@
+-- `codes::Woven::span` meets its contract: the places so far lie from low to high. Assumes nothing.
+use Prim.Native.Nat.{◌+◌, ◌<◌}
+use Rattle.codes.specs.code.Runs.{places}
+use Rattle.codes.specs.code.Weaving.{Spans}
+use Rattle.codes.proofs.weaving.Woven.span.Given as goal
+
+abbrev pub invariant-loop-j : goal.invariant-loop-j
+invariant-loop-j l = (l.high < l.self.run.piece.len + l.self.run.b) × Spans l.j l.low l.high (places l.self.repairs)

@@ -1,0 +1,3 @@
+-- What the proofs of the code share.
+mod Pieces
+mod Stores

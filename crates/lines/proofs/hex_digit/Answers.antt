@@ -1,8 +1,0 @@
-use Rattle.lines.specs.laws.PrintLaws.{hex-low, hex-high}
-use Rattle.lines.proofs.hex_digit.Goals as goal
-
-pub returns-then-d-lt10 : goal.returns-then-d-lt10
-returns-then-d-lt10 c = hex-low _ c.if-d-lt10.true
-
-pub returns : goal.returns
-returns c = hex-high _ c.if-d-lt10.false
