@@ -1,7 +1,7 @@
 use mathlib.Core.Path.{sym, ap, ◌∙◌}
 use native.Mathlib.Omega.{arith}
 use Rattle.strings.specs.SettingLimits.{within_limits}
-use Rattle.cabi.specs.laws.RebuilderBytesLaws.{start-bad-setting, start-bad-string, start-short, StartCalled, start_small, start-declined, start-begun}
+use Rattle.cabi.specs.laws.RebuilderBytesLaws.{start-bad-setting, start-bad-string, start-short, start_called, start_small, start-declined, start-begun}
 use Rattle.cabi.proofs.lo_rebuilder_start.Goals as goal
 
 pub returns-then-not-is_within_limits : goal.returns-then-not-is_within_limits
@@ -17,57 +17,15 @@ returns-then-capacity-lt-REBUILDER_BYTES c =
 
 pub pack_value-requires : goal.pack_value-requires
 pack_value-requires c =
-    let called : StartCalled = record {
-      S = record { m = c.args.m; h = c.args.h; k = c.args.k; key = c.args.key; ceiling = c.args.ceiling };
-      given = _;
-      y = c.args.y.now;
-      bits = c.args.bits;
-      s = c.args.state.now;
-      question = c.args.question.now;
-      question' = _;
-      out = c.rebuilder_start-out.result;
-      same = c.new-s.ensures;
-      limits = ap within_limits (sym c.new-s.ensures) ∙ sym c.is_within_limits.ensures ∙ c.if-not-is_within_limits.false;
-      rule = sym c.keeps_string_rule.ensures ∙ c.if-not-keeps_string_rule.false;
-      capacity = (let w = c.if-capacity-lt-REBUILDER_BYTES.false in omega arith);
-      said = c.rebuilder_start-out.ensures;
-    } in
+    let called = start_called (record { m = c.args.m; h = c.args.h; k = c.args.k; key = c.args.key; ceiling = c.args.ceiling }) c.args.y.now c.args.bits c.args.state.now c.args.question.now c.rebuilder_start-out.result c.new-s.ensures (sym c.is_within_limits.ensures ∙ c.if-not-is_within_limits.false) (sym c.keeps_string_rule.ensures ∙ c.if-not-keeps_string_rule.false) (let w = c.if-capacity-lt-REBUILDER_BYTES.false in omega arith) c.rebuilder_start-out.ensures in
     let small = start_small called c.in-Ok.is in omega arith
 
 pub returns-in-Err : goal.returns-in-Err
 returns-in-Err c =
-    let called : StartCalled = record {
-      S = record { m = c.args.m; h = c.args.h; k = c.args.k; key = c.args.key; ceiling = c.args.ceiling };
-      given = _;
-      y = c.args.y.now;
-      bits = c.args.bits;
-      s = c.args.state.now;
-      question = c.args.question.now;
-      question' = _;
-      out = c.rebuilder_start-out.result;
-      same = c.new-s.ensures;
-      limits = ap within_limits (sym c.new-s.ensures) ∙ sym c.is_within_limits.ensures ∙ c.if-not-is_within_limits.false;
-      rule = sym c.keeps_string_rule.ensures ∙ c.if-not-keeps_string_rule.false;
-      capacity = (let w = c.if-capacity-lt-REBUILDER_BYTES.false in omega arith);
-      said = c.rebuilder_start-out.ensures;
-    } in
+    let called = start_called (record { m = c.args.m; h = c.args.h; k = c.args.k; key = c.args.key; ceiling = c.args.ceiling }) c.args.y.now c.args.bits c.args.state.now c.args.question.now c.rebuilder_start-out.result c.new-s.ensures (sym c.is_within_limits.ensures ∙ c.if-not-is_within_limits.false) (sym c.keeps_string_rule.ensures ∙ c.if-not-keeps_string_rule.false) (let w = c.if-capacity-lt-REBUILDER_BYTES.false in omega arith) c.rebuilder_start-out.ensures in
     start-declined called c.in-Err.is c.pack_refusal-in-Err.ensures
 
 pub returns-in-Ok : goal.returns-in-Ok
 returns-in-Ok c =
-    let called : StartCalled = record {
-      S = record { m = c.args.m; h = c.args.h; k = c.args.k; key = c.args.key; ceiling = c.args.ceiling };
-      given = _;
-      y = c.args.y.now;
-      bits = c.args.bits;
-      s = c.args.state.now;
-      question = c.args.question.now;
-      question' = _;
-      out = c.rebuilder_start-out.result;
-      same = c.new-s.ensures;
-      limits = ap within_limits (sym c.new-s.ensures) ∙ sym c.is_within_limits.ensures ∙ c.if-not-is_within_limits.false;
-      rule = sym c.keeps_string_rule.ensures ∙ c.if-not-keeps_string_rule.false;
-      capacity = (let w = c.if-capacity-lt-REBUILDER_BYTES.false in omega arith);
-      said = c.rebuilder_start-out.ensures;
-    } in
+    let called = start_called (record { m = c.args.m; h = c.args.h; k = c.args.k; key = c.args.key; ceiling = c.args.ceiling }) c.args.y.now c.args.bits c.args.state.now c.args.question.now c.rebuilder_start-out.result c.new-s.ensures (sym c.is_within_limits.ensures ∙ c.if-not-is_within_limits.false) (sym c.keeps_string_rule.ensures ∙ c.if-not-keeps_string_rule.false) (let w = c.if-capacity-lt-REBUILDER_BYTES.false in omega arith) c.rebuilder_start-out.ensures in
     rw c.pack_value.ensures (start-begun called c.in-Ok.is c.write_rebuilder.ensures)

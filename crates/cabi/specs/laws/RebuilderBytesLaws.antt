@@ -200,6 +200,28 @@ pub record RebuilderCalled : Type 0 where
   pub read : st ≡ rebuilder_of s
   pub said : said_rebuilder out string' question' ≡ leaves_rebuilder st string question (rebuilder_call st y bits msg (capacities_in string sheet question))
 
+-- a call of these, from what the code's steps say
+abbrev pub rebuilder_called : (s y : List ℕ) (bits : ℕ) (msg string sheet question : List ℕ) {string' question' : List ℕ} {st : Rebuilder} (out : RebuilderOut)
+    → string_rule y bits ≡ true → is_rebuilder s ≡ true → st ≡ rebuilder_of s
+    → said_rebuilder out string' question' ≡ leaves_rebuilder st string question (rebuilder_call st y bits msg (capacities_in string sheet question)) → RebuilderCalled
+rebuilder_called s y bits msg string sheet question {string'} {question'} {st} out rule whole read said = record {
+  s = s;
+  y = y;
+  bits = bits;
+  msg = msg;
+  string = string;
+  sheet = sheet;
+  question = question;
+  string' = string';
+  question' = question';
+  st = st;
+  out = out;
+  rule = rule;
+  whole = whole;
+  read = read;
+  said = said;
+}
+
 module _ (k : RebuilderCalled) where
   abbrev capacities : Capacities
   capacities = capacities_in k.string k.sheet k.question
@@ -326,6 +348,26 @@ pub record StartCalled : Type 0 where
   pub rule : string_rule y bits ≡ true
   pub capacity : rebuilder_size ≤ length s
   pub said : said_start out question' ≡ leaves_start question (rebuilder_start given y bits (length question))
+
+-- a start of these, from what the code's steps say
+abbrev pub start_called : (S : Settings) {given : Settings} (y : List ℕ) (bits : ℕ) (s question : List ℕ) {question' : List ℕ} (out : StartOut)
+    → given ≡ S → within_limits given ≡ true → string_rule y bits ≡ true → rebuilder_size ≤ length s
+    → said_start out question' ≡ leaves_start question (rebuilder_start given y bits (length question)) → StartCalled
+start_called S {given} y bits s question {question'} out same limits rule capacity said = record {
+  S = S;
+  given = given;
+  y = y;
+  bits = bits;
+  s = s;
+  question = question;
+  question' = question';
+  out = out;
+  same = same;
+  limits = ap within_limits (sym same) ∙ limits;
+  rule = rule;
+  capacity = capacity;
+  said = said;
+}
 
 module _ (k : StartCalled) where
   -- what the start gives
