@@ -1,5 +1,5 @@
-// The C interface: what a host calls, on numbers and byte slices, and for a list on a slice of 32-bit numbers. include/lunetteorris.h declares
-// it, docs/LAYOUT.md has the layouts. A result is value * 256 + refusal (specs/Packing.antt).
+// The C interface: what a host calls, on numbers and byte slices, and for a list on a slice of 32-bit numbers. include/lunetteorris.h
+// declares it, docs/LAYOUT.md has the layouts. A result is value * 256 + refusal (specs/Packing.antt).
 // A state stands in the first bytes of its slice, which may have more: those are neither read nor written. Bytes that no state has get 3
 // in the calls; too few for a state get 9 in the two functions that make one.
 #![tactic(auto)]
@@ -44,8 +44,7 @@ pub extern "C" fn lo_repair(s: &[u8], bits: usize, n: usize, a: usize, out: &mut
     ensures value { result ≡ packed (mapped done_number (repair_outcome s.now bits n a out.old).answer) }
     ensures out_after { out.new ≡ (repair_outcome s.now bits n a out.old).buffer }
 {
-    let answer = codes::repair(s, bits, n, a, out);
-    packing::pack(answer)
+    packing::pack(codes::repair(s, bits, n, a, out))
 }
 
 // Every string of n bits and syndrome a as a number with the first bit highest, rising, in the entries of `out`: their count.
@@ -54,8 +53,7 @@ pub extern "C" fn lo_list(n: usize, a: usize, out: &mut [u32]) -> u64
     ensures value { result ≡ packed (list_outcome n a out.old).answer }
     ensures out_after { out.new ≡ (list_outcome n a out.old).buffer }
 {
-    let answer = codes::list_syndrome(n, a, out);
-    packing::pack(answer)
+    packing::pack(codes::list_syndrome(n, a, out))
 }
 
 // The word of n bits and syndrome a for a message: 1 where it is built.
@@ -70,8 +68,7 @@ pub extern "C" fn lo_marker_build(
     ensures value { result ≡ packed (mapped done_number (build_outcome message.now bits n a out.old).answer) }
     ensures out_after { out.new ≡ (build_outcome message.now bits n a out.old).buffer }
 {
-    let answer = codes::build_marker(message, bits, n, a, out);
-    packing::pack(answer)
+    packing::pack(codes::build_marker(message, bits, n, a, out))
 }
 
 // The message of the word of n bits and syndrome a for which a string is received: 1 where there is one, 0 where there is none.
@@ -86,8 +83,7 @@ pub extern "C" fn lo_marker_read(
     ensures value { result ≡ packed (mapped done_number (read_outcome received.now bits n a out.old).answer) }
     ensures out_after { out.new ≡ (read_outcome received.now bits n a out.old).buffer }
 {
-    let answer = codes::read_marker(received, bits, n, a, out);
-    packing::pack(answer)
+    packing::pack(codes::read_marker(received, bits, n, a, out))
 }
 
 // The place of an anchor plus 1, or 0 where there is none.
@@ -105,8 +101,7 @@ pub extern "C" fn lo_anchor(
 ) -> u64
     ensures { result ≡ packed (mapped place_number (anchor_search y.now bits start q p s m k a.now)) }
 {
-    let answer = ends::find_anchor(y, bits, start, q, p, s, m, k, a);
-    packing::pack(answer)
+    packing::pack(ends::find_anchor(y, bits, start, q, p, s, m, k, a))
 }
 
 // The state of a holder that has answered nothing.
@@ -114,12 +109,10 @@ pub extern "C" fn lo_anchor(
 pub extern "C" fn lo_holder_fresh(state: &mut [u8]) -> u64
     ensures { record { result = result; state = state.new } ≡ holder_made state.old }
 {
-    let capacity = state.len();
-    if capacity < HOLDER_BYTES {
+    if state.len() < HOLDER_BYTES {
         return packing::pack_refusal(Refusal::BufferTooShort);
     }
-    let fresh = ends::fresh_holder();
-    layout::write_holder(state, fresh);
+    layout::write_holder(state, ends::fresh_holder());
     0
 }
 
@@ -179,17 +172,17 @@ pub extern "C" fn lo_rebuilder_start(
     if capacity < REBUILDER_BYTES {
         return packing::pack_refusal(Refusal::BufferTooShort);
     }
-    let out = ends::rebuilder_start(s, y, bits, question);
-    match out.answer {
+    match ends::rebuilder_start(s, y, bits, question) {
         Err(e) => packing::pack_refusal(e),
-        Ok(size) => {
-            layout::write_rebuilder(state, out.state);
-            packing::pack_value(size)
+        Ok(started) => {
+            layout::write_rebuilder(state, started.state);
+            packing::pack_value(started.size)
         }
     }
 }
 
-// What a taken call of the rebuilder leaves in state and sheet, and its result for a question of that length.
+// What a taken call of the rebuilder leaves in state and sheet, and its result for a question of that length. That both are long enough
+// stays a clause: an array of the state's size would leave the bytes behind it out of what is promised, and the sheet has no fixed size.
 fn keep(state: &mut [u8], sheet: &mut [u8], st: Rebuilder, change: SheetChange, size: usize) -> u64
     requires rebuilder_size_in_bounds { rebuilder_size ≤ length state.old }
     requires change_in_bounds { row_size * rows_needed change ≤ length sheet.old }

@@ -13,7 +13,7 @@ const VALUE_UNIT: u64 = 256;
 pub trait Value {
     ghost number: { Self → ℕ };
 
-    ghost fits: { Self → Type 0 };
+    ghost fits: { Self → Type 0 } = { λ v. ⊤ };
 
     fn number(self) -> u32
         requires { fits self }
@@ -24,8 +24,6 @@ pub trait Value {
 impl Value for u32 {
     ghost number = { λ v. v };
 
-    ghost fits = { λ v. ⊤ };
-
     fn number(self) -> u32 {
         self
     }
@@ -35,8 +33,6 @@ impl Value for u32 {
 impl Value for bool {
     ghost number = { done_number };
 
-    ghost fits = { λ v. ⊤ };
-
     fn number(self) -> u32 {
         u32::from(self)
     }
@@ -45,8 +41,6 @@ impl Value for bool {
 // That a marker was built.
 impl Value for () {
     ghost number = { λ v. 1 };
-
-    ghost fits = { λ v. ⊤ };
 
     fn number(self) -> u32 {
         1

@@ -9,6 +9,7 @@ pub mod EditLaws
 pub mod HashLaws
 pub mod ColumnReadLaws
 pub mod ColumnByteLaws
+pub mod StrideLaws
 pub mod WeavingLaws
 pub mod ColumnEditLaws
 pub mod TrialLaws

@@ -6,7 +6,9 @@ ghost use Rattle.strings.specs.Ranges.{bits};
 ghost use Rattle.codes.specs.Hash.{hash};
 ghost use Rattle.codes.specs.Repair.{without, insert_at};
 ghost use Rattle.codes.specs.code.Edits.{edited, Fits};
+ghost use Rattle.codes.specs.laws.EditLaws.{Fits-prop};
 
+use crate::candidates::Candidate;
 use crate::rows::HashKey;
 use strings::BitRange;
 
@@ -15,6 +17,14 @@ use strings::BitRange;
 pub enum Edit {
     Put(usize, bool),
     Take(usize),
+}
+
+// A range and an edit that can be made to it: the edited range, of which nothing is stored. No equality is derived, as for `BitRange`.
+#[derive(Clone, Copy, Debug)]
+pub struct Edited<'a> {
+    pub piece: BitRange<'a>,
+    pub edit: Edit,
+    ghost fits: { Fits edit piece.len } by { Fits-prop edit piece.len },
 }
 
 // The hash of the range with bit b put in at place i.
@@ -33,17 +43,6 @@ fn hash_take(s: BitRange, i: usize, k: HashKey) -> u32
     ensures { result ≡ hash k.h k.key (without i (bits s.entry)) }
 {
     k.cut(k.start().over(s.first(i)).over(s.skip(i + 1)))
-}
-
-// The hash of the edited range.
-pub fn hash_edited(s: BitRange, e: Edit, k: HashKey) -> u32
-    requires { Fits e s.len }
-    ensures { result ≡ hash k.h k.key (edited e (bits s.entry)) }
-{
-    match e {
-        Edit::Put(i, b) => hash_put(s, i, b, k),
-        Edit::Take(i) => hash_take(s, i, k),
-    }
 }
 
 // The range with bit b put in at place i is written into `to` from place `at` on.
@@ -67,26 +66,35 @@ fn copy_take(s: BitRange, i: usize, to: &mut [u8], at: usize)
     strings::copy_bits(s.skip(i + 1), to, at + i);
 }
 
-// The edited range is written into `to` from place `at` on.
-pub fn copy_edited(s: BitRange, e: Edit, to: &mut [u8], at: usize)
-    requires fits { Fits e s.len }
-    requires part { Part to.old at (length (edited e (bits s))) }
-    ensures { to.new ≡ write_bits to.old at (edited e (bits s.entry)) }
-{
-    match e {
-        Edit::Put(i, b) => copy_put(s, i, b, to, at),
-        Edit::Take(i) => copy_take(s, i, to, at),
+impl Candidate for Edited<'_> {
+    ghost candidate = { λ c. edited c.edit (bits c.piece) };
+
+    fn hash(&self, k: HashKey) -> u32 {
+        let s = self.piece;
+        match self.edit {
+            Edit::Put(i, b) => hash_put(s, i, b, k),
+            Edit::Take(i) => hash_take(s, i, k),
+        }
+    }
+
+    fn copy(&self, to: &mut [u8], at: usize) {
+        let s = self.piece;
+        match self.edit {
+            Edit::Put(i, b) => copy_put(s, i, b, to, at),
+            Edit::Take(i) => copy_take(s, i, to, at),
+        }
     }
 }
 
-// The first bytes of `out` become the edited range, which has n bits, as a string; later bytes stay.
-pub fn pack_edited(s: BitRange, e: Edit, n: usize, out: &mut [u8])
-    requires fits { Fits e s.len }
-    requires len_len { length (edited e (bits s)) ≡ n }
-    requires n_le_max_bits { n ≤ max_bits }
-    requires n_in_bounds { bytes_for n ≤ length out.old }
-    ensures { out.new ≡ at_front (pack (edited e (bits s.entry))) out.old }
-{
-    strings::clear_bytes(out, 0, (n + 7) / 8);
-    copy_edited(s, e, out, 0);
+impl Edited<'_> {
+    // The first bytes of `out` become the edited range, which has n bits, as a string; later bytes stay.
+    pub fn pack(&self, n: usize, out: &mut [u8])
+        requires len_len { length (edited self.now.edit (bits self.now.piece)) ≡ n }
+        requires n_le_max_bits { n ≤ max_bits }
+        requires n_in_bounds { bytes_for n ≤ length out.old }
+        ensures { out.new ≡ at_front (pack (edited self.now.edit (bits self.now.piece))) out.old }
+    {
+        strings::clear_bytes(out, 0, strings::bytes_for(n));
+        self.copy(out, 0);
+    }
 }

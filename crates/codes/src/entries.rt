@@ -1,9 +1,10 @@
-// What a host calls, on any bytes and numbers.
-ghost use Rattle.std.specs.Prelude.{◌≡◌, ◌≤◌};
-ghost use Rattle.strings.specs.Bits.{max_bits};
+// What a host calls, on any bytes and numbers. A string comes as bytes and a bit count, as the C interface hands it in. Whether the two
+// belong together is tested here: `hash` tests its settings first, and a type of both would turn the string down before them.
+ghost use Rattle.std.specs.Prelude.{◌≡◌};
 ghost use Rattle.strings.specs.Results.{said};
 ghost use Rattle.codes.specs.Entries.{said_repair, repair_outcome, syndrome_call, hash_call, repair_range, hash_settings};
 
+use crate::edits::Edited;
 use crate::rows::HashKey;
 use strings::{BitRange, Refusal};
 
@@ -53,10 +54,9 @@ pub fn hash(s: &[u8], bits: usize, h: u32, key: u32) -> Result<u32, Refusal>
 // Whether a string of `bits` bits can be asked to become one of n bits with the syndrome a.
 #[tactic(auto, unfolding(crate::specs::Entries::repair_range))]
 fn keeps_repair_range(bits: usize, n: usize, a: usize) -> bool
-    requires { bits ≤ max_bits }
     ensures { result ≡ repair_range bits n a }
 {
-    n <= strings::MAX_BITS && a <= n && (bits + 1 == n || bits == n + 1)
+    n <= strings::MAX_BITS && a <= n && bits.abs_diff(n) == 1
 }
 
 // The repair of a string of `bits` bits to one of n bits, one more or one less, that has the syndrome a. True: the first bytes of `out` are
@@ -71,7 +71,7 @@ pub fn repair(s: &[u8], bits: usize, n: usize, a: usize, out: &mut [u8]) -> Resu
     if !keeps_repair_range(bits, n, a) {
         return Err(Refusal::OutOfRange);
     }
-    if out.len() < (n + 7) / 8 {
+    if out.len() < strings::bytes_for(n) {
         return Err(Refusal::BufferTooShort);
     }
     let whole = BitRange {
@@ -79,9 +79,9 @@ pub fn repair(s: &[u8], bits: usize, n: usize, a: usize, out: &mut [u8]) -> Resu
         start: 0,
         len: bits,
     };
-    let Some(e) = crate::places::find_repair(whole, n, a) else {
+    let Some(edit) = crate::places::find_repair(whole, n, a) else {
         return Ok(false);
     };
-    crate::edits::pack_edited(whole, e, n, out);
+    Edited { piece: whole, edit }.pack(n, out);
     Ok(true)
 }

@@ -1,10 +1,11 @@
 // Codes and hash: the second of the four layers. The syndrome of a string, one bit put in or taken out so that the syndrome is a given
 // number, and the keyed hash; both for each column of a string, where a run of bits was lost or gained; all strings of one syndrome; and
 // markers, words with a wanted syndrome that carry a message. `entries`, `lists` and `markers` have what a host calls, on any bytes and
-// numbers; the other modules work on a range of a packed string and require that it lies in the string. Of these the layers above call
+// numbers; the other modules work on a `BitRange`, which is known to lie in its string. Of these the layers above call
 // `syndrome_of`, `syndrome_of_column`, the hash of a `HashKey`, and the trials.
 #![tactic(auto)]
 
+mod candidates;
 mod columns;
 mod edits;
 mod entries;
@@ -14,6 +15,7 @@ mod modulus;
 mod places;
 mod rows;
 mod shape;
+mod strides;
 mod sums;
 mod trials;
 mod weaving;

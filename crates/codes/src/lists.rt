@@ -13,7 +13,7 @@ use strings::Refusal;
 const MAX_LIST_BITS: usize = 20;
 
 // What is listed: the strings of n bits that have the syndrome a.
-#[derive(Clone, Copy)]
+#[derive(Clone, Copy, Debug, PartialEq, Eq)]
 struct Listed {
     n: usize,
     a: usize,
@@ -66,82 +66,86 @@ fn power(digits: usize) -> usize
     1usize << digits
 }
 
-// The low numbers are linked and counted, from the last to the first.
-fn link_lows(
+// The low numbers as linked lists, one for each residue: its first number, behind each number the next, and how many there are. Behind the
+// last stands the count of the low numbers, which is none of them: an Option would be no plainer, because it does not bound the index, and
+// each step would test twice. As no heap is used, the arrays have room for the most bits that are listed. Nothing more is
+// derived: these are more than 8 KB, which nothing copies, compares or prints.
+#[derive(Drop)]
+struct Links {
     list: Listed,
-    size: usize,
-    first: &mut [usize],
-    next: &mut [usize],
-    counts: &mut [usize],
-)
-    requires size_is { size ≡ 2 ^ low_digits list.n }
-    requires linked { Linked list.n size first.old next.old }
-    requires counted { Counted list.n size counts.old }
-    ensures linked_2 { Linked list.n 0 first.new next.new }
-    ensures counted_2 { Counted list.n 0 counts.new }
-{
-    for j in (0..size).rev() {
-        let r = list.low_residue(j);
-        next[j] = first[r];
-        first[r] = j;
-        counts[r] += 1;
-    }
+    first: [usize; 21],
+    next: [usize; 1024],
+    counts: [usize; 21],
+    ghost linked: { Linked list.n 0 first next },
+    ghost counted: { Counted list.n 0 counts },
 }
 
-// How many strings are listed.
-fn count_listing(list: Listed, counts: &[usize]) -> usize
-    requires { Counted list.n 0 counts.now }
-    ensures { result ≡ length (listing list.n list.a) }
-{
-    let end = power(list.n - list.n / 2);
-    let mut total: usize = 0;
-    for h in 0..end {
-        total += counts[list.wanted_residue(h)];
+impl Links {
+    // The low numbers are linked and counted, from the last to the first.
+    fn new(list: Listed) -> Links
+        ensures { result.list ≡ list }
+    {
+        let size = power(list.n / 2);
+        let mut first: [usize; 21] = [size; 21];
+        let mut next: [usize; 1024] = [0; 1024];
+        let mut counts: [usize; 21] = [0; 21];
+        for j in (0..size).rev() {
+            let r = list.low_residue(j);
+            next[j] = first[r];
+            first[r] = j;
+            counts[r] += 1;
+        }
+        Links {
+            list,
+            first,
+            next,
+            counts,
+        }
     }
-    total
-}
 
-// The low numbers with the residue r are stored from index k on, each behind the high number h; the answer is the index after them.
-fn write_block(
-    list: Listed,
-    h: usize,
-    r: usize,
-    first: &[usize],
-    next: &[usize],
-    out: &mut [u32],
-    k: usize,
-) -> usize
-    requires h_high { h < 2 ^ high_digits list.n }
-    requires r_le_n { r ≤ list.n }
-    requires linked { Linked list.n 0 first.now next.now }
-    requires r_in_bounds { k + length (lows list.n r 0) ≤ length out.old }
-    ensures out_after { out.new ≡ sets out.old k (behind list.n h (lows list.n r 0)) }
-    ensures value { result ≡ k + length (lows list.n r 0) }
-{
-    let size = power(list.n / 2);
-    let base = h * size;
-    let mut at = k;
-    let mut j = first[r];
-    // A linked list: the next number is read, and no range or iterator stands for it.
-    while j < size {
-        out[at] = (base + j) as u32;
-        at += 1;
-        j = next[j];
+    // How many strings are listed.
+    fn count(&self) -> usize
+        ensures { result ≡ length (listing self.now.list.n self.now.list.a) }
+    {
+        let end = power(self.list.n - self.list.n / 2);
+        let mut total: usize = 0;
+        for h in 0..end {
+            total += self.counts[self.list.wanted_residue(h)];
+        }
+        total
     }
-    at
-}
 
-// The list is stored from the buffer's first entry on.
-fn write_listing(list: Listed, first: &[usize], next: &[usize], out: &mut [u32])
-    requires linked { Linked list.n 0 first.now next.now }
-    requires a_in_bounds { length (listing list.n list.a) ≤ length out.old }
-    ensures { out.new ≡ sets out.old 0 (listing list.n list.a) }
-{
-    let end = power(list.n - list.n / 2);
-    let mut k: usize = 0;
-    for h in 0..end {
-        let r = list.wanted_residue(h);
-        k = write_block(list, h, r, first, next, out, k);
+    // The low numbers with the residue r are stored from index k on, each behind the high number h; the answer is the index after them.
+    fn write_block(&self, h: usize, r: usize, out: &mut [u32], k: usize) -> usize
+        requires h_high { h < 2 ^ high_digits self.now.list.n }
+        requires r_le_n { r ≤ self.now.list.n }
+        requires r_in_bounds { k + length (lows self.now.list.n r 0) ≤ length out.old }
+        ensures out_after { out.new ≡ sets out.old k (behind self.now.list.n h (lows self.now.list.n r 0)) }
+        ensures value { result ≡ k + length (lows self.now.list.n r 0) }
+    {
+        let size = power(self.list.n / 2);
+        let base = h * size;
+        let mut at = k;
+        let mut j = self.first[r];
+        // The next number is read, so that no range stands for the loop, and an iterator over the list would be this loop once more.
+        while j < size {
+            out[at] = (base + j) as u32;
+            at += 1;
+            j = self.next[j];
+        }
+        at
+    }
+
+    // The list is stored from the buffer's first entry on.
+    fn write(&self, out: &mut [u32])
+        requires { length (listing self.now.list.n self.now.list.a) ≤ length out.old }
+        ensures { out.new ≡ sets out.old 0 (listing self.now.list.n self.now.list.a) }
+    {
+        let end = power(self.list.n - self.list.n / 2);
+        let mut k: usize = 0;
+        for h in 0..end {
+            k = self.write_block(h, self.list.wanted_residue(h), out, k);
+        }
     }
 }
 
@@ -152,17 +156,11 @@ pub fn list_syndrome(n: usize, a: usize, out: &mut [u32]) -> Result<u32, Refusal
     if MAX_LIST_BITS < n || n < a {
         return Err(Refusal::OutOfRange);
     }
-    let list = Listed { n, a };
-    let size = power(n / 2);
-    // `first` and `counts` are indexed by residues, `next` by low numbers: a number's links are read one by one, never as a record.
-    let mut first: [usize; 21] = [size; 21];
-    let mut next: [usize; 1024] = [0; 1024];
-    let mut counts: [usize; 21] = [0; 21];
-    link_lows(list, size, &mut first, &mut next, &mut counts);
-    let count = count_listing(list, &counts);
+    let links = Links::new(Listed { n, a });
+    let count = links.count();
     if out.len() < count {
         return Err(Refusal::ListTooShort);
     }
-    write_listing(list, &first, &next, out);
+    links.write(out);
     Ok(count as u32)
 }

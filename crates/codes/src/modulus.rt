@@ -5,7 +5,7 @@ ghost use Rattle.codes.specs.code.Sums.{Residue};
 
 // What is added up modulo m. The bounds only keep additions in range: a range has at most MAX_BITS bits, and its modulus is at most two
 // more.
-#[derive(Clone, Copy)]
+#[derive(Clone, Copy, Debug, PartialEq, Eq)]
 pub struct Modulus {
     pub m: u32,
     ghost least: { 1 ≤ m },
@@ -21,7 +21,8 @@ impl Modulus {
         Modulus { m: m as u32 }
     }
 
-    // x + y, for a summand y that is not above m: one subtraction is enough.
+    // x + y, for a summand y that is not above m: one subtraction is enough. Not as the smaller of z and z - m, wrapped round: whole runs
+    // took a fifth longer. That a sum is below m stays a clause: a type of such sums would hold m once more in each of a byte's eight.
     pub fn add(self, x: u32, y: u32) -> u32
         requires x_lt_m { x < self.m }
         requires y_le_m { y ≤ self.m }

@@ -1,76 +1,52 @@
 // The place of the bit to put in or take out, found from the weighted sum and the count of ones.
 ghost use Rattle.std.specs.Prelude.{◌≡◌, true, false, ◌+◌, ◌-◌, ◌≤◌, ◌<◌, IfSome, unwrap_or};
 ghost use Rattle.std.proofs.Math.Option.{some};
-ghost use Rattle.strings.specs.Bits.{max_bits, range};
+ghost use Rattle.strings.specs.Bits.{max_bits, range, byte_bits};
 ghost use Rattle.strings.specs.Ranges.{bits};
 ghost use Rattle.codes.specs.Repair.{put_in, take_out, repair_to};
-ghost use Rattle.codes.specs.code.Place.{ones, zero_place, one_place, one_fall, FirstFall, take_place};
+ghost use Rattle.codes.specs.code.Place.{count_of, place_after, other_after, one_fall, take_place};
 ghost use Rattle.codes.specs.code.Edits.{edited, Fits, repaired, RepairFits};
 
 use crate::edits::Edit;
 use crate::modulus::Modulus;
 use strings::BitRange;
 
-// The first place from bit `from` on with at most r ones from there on, where w ones are left there, bit by bit.
-fn zero_singly(s: BitRange, from: usize, w: usize, r: usize) -> usize
-    requires from_le_len { from ≤ s.len }
-    requires w_value { w ≡ ones (range s.bytes.now (s.start + from) (s.len - from)) }
-    ensures { result ≡ from + zero_place r (range s.entry.bytes.now (s.entry.start + from) (s.entry.len - from)) }
+// How many bits BIT a byte has.
+fn count_byte<const BIT: bool>(v: u8) -> usize
+    ensures { result ≡ count_of BIT (byte_bits v) }
 {
-    let mut right = w;
-    for i in from..s.len {
-        if right <= r {
-            return i;
-        }
-        right -= s.get(i) as usize;
-    }
-    s.len
+    let ones = crate::sums::ones_byte(v) as usize;
+    if BIT { ones } else { 8 - ones }
 }
 
-// The first place with at most r ones from there on, where the range has w ones. A byte with more than r ones behind it is passed whole.
-fn zero_place(s: BitRange, w: usize, r: usize) -> usize
-    requires { w ≡ ones (bits s) }
-    ensures { result ≡ zero_place r (bits s.entry) }
-{
-    let mut right = w;
-    for k in 0..s.len / 8 {
-        let behind = right - crate::sums::ones_byte(s.byte(8 * k)) as usize;
-        if behind <= r {
-            return zero_singly(s, 8 * k, right, r);
-        }
-        right = behind;
-    }
-    zero_singly(s, 8 * (s.len / 8), right, r)
-}
-
-// The first place from bit `from` on with z zeros between, bit by bit.
-fn one_singly(s: BitRange, from: usize, z: usize) -> usize
+// The first place from bit `from` on with k bits BIT between, bit by bit.
+fn place_singly<const BIT: bool>(s: BitRange, from: usize, k: usize) -> usize
     requires { from ≤ s.len }
-    ensures { result ≡ from + one_place z (range s.entry.bytes.now (s.entry.start + from) (s.entry.len - from)) }
+    ensures { result ≡ from + place_after BIT k (range s.entry.bytes.now (s.entry.start + from) (s.entry.len - from)) }
 {
-    let mut left = z;
+    let mut left = k;
     for i in from..s.len {
         if left == 0 {
             return i;
         }
-        left -= !s.get(i) as usize;
+        left -= (s.get(i) == BIT) as usize;
     }
     s.len
 }
 
-// The first place with z zeros before it. A byte with fewer zeros than are left to pass is passed whole.
-fn one_place(s: BitRange, z: usize) -> usize
-    ensures { result ≡ one_place z (bits s.entry) }
+// The first place with k bits BIT before it. A byte with fewer of them than are left to pass is passed whole.
+fn place_after<const BIT: bool>(s: BitRange, k: usize) -> usize
+    ensures { result ≡ place_after BIT k (bits s.entry) }
 {
-    let mut left = z;
-    for k in 0..s.len / 8 {
-        let zeros = 8 - crate::sums::ones_byte(s.byte(8 * k)) as usize;
-        if left <= zeros {
-            return one_singly(s, 8 * k, left);
+    let mut left = k;
+    for i in 0..s.len / 8 {
+        let passed = count_byte::<BIT>(s.byte(8 * i));
+        if left <= passed {
+            return place_singly::<BIT>(s, 8 * i, left);
         }
-        left -= zeros;
+        left -= passed;
     }
-    one_singly(s, 8 * (s.len / 8), left)
+    place_singly::<BIT>(s, 8 * (s.len / 8), left)
 }
 
 // The bit and the place that raise the sum to the syndrome a.
@@ -84,9 +60,9 @@ fn put_edit(s: BitRange, a: usize) -> Edit
     let sum = crate::sums::sum_modulo(s, m);
     let d = m.subtract(a, sum);
     if d <= w {
-        return Edit::Put(zero_place(s, w, d), false);
+        return Edit::Put(place_after::<true>(s, w - d), false);
     }
-    Edit::Put(one_place(s, d - w - 1), true)
+    Edit::Put(place_after::<false>(s, d - w - 1), true)
 }
 
 // The bit put in that gives the syndrome a. There is one for each a up to len + 1.
@@ -105,48 +81,20 @@ fn find_put(s: BitRange, a: usize) -> Option<Edit>
 fn one_fall(len: usize, fall: usize) -> usize
     ensures { result ≡ one_fall len fall }
 {
-    if fall == 0 {
-        return len;
-    }
-    fall
+    if fall == 0 { len } else { fall }
 }
 
-// The first 0 with r ones behind it, where the range has w ones. It stands where a 0 is put in that has r ones to its right, or nowhere.
-fn zero_out(s: BitRange, w: usize, r: usize) -> Option<usize>
-    requires { w ≡ ones (bits s) }
-    ensures first { FirstFall false r (bits s.entry) (unwrap_or result s.entry.len) }
-    ensures within { IfSome result (λ i. i < s.entry.len) }
+// The first place with k bits BIT before it, if the other bit stands there. None where there is no k.
+fn other_after<const BIT: bool>(s: BitRange, k: Option<usize>) -> Option<usize>
+    ensures { result ≡ other_after BIT k (bits s.entry) }
 {
-    if w < r {
-        return None;
-    }
-    let p = zero_place(s, w, r);
-    if s.len <= p || s.get(p) {
-        return None;
-    }
-    Some(p)
+    let p = place_after::<BIT>(s, k?);
+    (p < s.len && s.get(p) != BIT).then_some(p)
 }
 
-// The first 1 that lowers the sum by `fall` when it is taken out, by its place and the ones behind it. As many zeros stand before it as
-// `fall` is above w, the count of ones.
-fn one_out(s: BitRange, w: usize, fall: usize) -> Option<usize>
-    requires { w ≡ ones (bits s) }
-    ensures first { FirstFall true fall (bits s.entry) (unwrap_or result s.entry.len) }
-    ensures within { IfSome result (λ i. i < s.entry.len) }
-{
-    if fall < w {
-        return None;
-    }
-    let p = one_place(s, fall - w);
-    if s.len <= p || !s.get(p) {
-        return None;
-    }
-    Some(p)
-}
-
-// The first bit that can be taken out so that the syndrome is a. A 0 lowers the sum by the ones behind it, 0 to len - 1; a 1 by its place
-// and the ones behind it, 1 to len. Nearly always only one of the two is looked for: a 0 for a fall up to the count of ones, a 1 for one
-// from there on.
+// The first bit that can be taken out so that the syndrome is a. A 0 lowers the sum by the ones behind it, 0 to len - 1; the rest of the
+// ones stand before it. A 1 lowers it by its place and the ones behind it, 1 to len; as many zeros stand before it as that is above the
+// count of ones. Nearly always only one of the two is looked for: a 0 for a fall up to the count of ones, a 1 for one from there on.
 fn take_place(s: BitRange, a: usize) -> Option<usize>
     ensures first { unwrap_or result s.entry.len ≡ take_place a (bits s.entry) }
     ensures within { IfSome result (λ i. i < s.entry.len) }
@@ -159,10 +107,10 @@ fn take_place(s: BitRange, a: usize) -> Option<usize>
     let for_zero = m.subtract(sum, a);
     let for_one = one_fall(s.len, for_zero);
     let w = crate::sums::ones_of(s);
-    if let Some(zero) = zero_out(s, w, for_zero) {
+    if let Some(zero) = other_after::<true>(s, w.checked_sub(for_zero)) {
         return Some(zero);
     }
-    one_out(s, w, for_one)
+    other_after::<false>(s, for_one.checked_sub(w))
 }
 
 // The bit taken out that gives the syndrome a, if there is one.

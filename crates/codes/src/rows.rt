@@ -1,5 +1,5 @@
 // The xorshift rows and the hash of a range. Rows are stepped from bit to bit; none is stored.
-ghost use Rattle.std.specs.Prelude.{◌≡◌, [], ◌∷◌, ◌*◌, ◌%◌, ◌^◌, ◌≤◌};
+ghost use Rattle.std.specs.Prelude.{◌≡◌, [], ◌∷◌, ◌*◌, ◌/◌, ◌%◌, ◌^◌, ◌≤◌};
 ghost use Rattle.strings.specs.Bits.{range, byte_bits};
 ghost use Rattle.strings.specs.Ranges.{bits};
 ghost use Rattle.codes.specs.Hash.{xorshift as xorshift_of, hash};
@@ -51,38 +51,23 @@ impl Hashing {
         }
     }
 
-    // Four bits more.
-    fn four(self, a: bool, b: bool, c: bool, d: bool) -> Hashing
-        ensures { Went self.sum self.row (a ∷ b ∷ c ∷ d ∷ []) result.sum result.row }
-    {
-        self.bit(a).bit(b).bit(c).bit(d)
-    }
-
     // The eight bits of a byte more.
     fn byte(self, v: u8) -> Hashing
         ensures { Went self.sum self.row (byte_bits v) result.sum result.row }
     {
-        let high = self.four(
-            (v >> 7) % 2 == 1,
-            (v >> 6) % 2 == 1,
-            (v >> 5) % 2 == 1,
-            (v >> 4) % 2 == 1,
-        );
-        high.four(
-            (v >> 3) % 2 == 1,
-            (v >> 2) % 2 == 1,
-            (v >> 1) % 2 == 1,
-            (v >> 0) % 2 == 1,
-        )
+        let mut all = self;
+        for k in 0..8u32 {
+            all = all.bit((v >> (7 - k)) % 2 == 1);
+        }
+        all
     }
 
-    // The first 8 * count bits of a range more, by bytes.
-    fn over_bytes(self, s: BitRange, count: usize) -> Hashing
-        requires { 8 * count ≤ s.len }
-        ensures { Went self.sum self.row (range s.entry.bytes.now s.entry.start (8 * count)) result.sum result.row }
+    // The bits of the whole bytes of a range more.
+    fn over_bytes(self, s: BitRange) -> Hashing
+        ensures { Went self.sum self.row (range s.entry.bytes.now s.entry.start (8 * (s.entry.len / 8))) result.sum result.row }
     {
         let mut all = self;
-        for i in 0..count {
+        for i in 0..s.len / 8 {
             all = all.byte(s.byte(8 * i));
         }
         all
@@ -103,8 +88,7 @@ impl Hashing {
     pub fn over(self, s: BitRange) -> Hashing
         ensures { Went self.sum self.row (bits s.entry) result.sum result.row }
     {
-        let count = s.len / 8;
-        self.over_bytes(s, count).over_bits(s.skip(8 * count))
+        self.over_bytes(s).over_bits(s.skip(8 * (s.len / 8)))
     }
 }
 

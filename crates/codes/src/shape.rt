@@ -15,14 +15,13 @@ pub fn is_column_count(b: u32) -> bool
     strings::is_between(2, b, 32)
 }
 
-// How many bits column j of n bits has. The last bound only keeps the sum in range: a message is read for a range of any length.
+// How many bits column j of n bits has.
 pub fn column_length(b: usize, j: usize, n: usize) -> usize
     requires j_lt_b { j < b }
     requires b_bound { b ≤ 32 }
-    requires n_bound { n ≤ 4294967295 }
     ensures { result ≡ column_length b j n }
 {
-    (n + (b - 1 - j)) / b
+    n.saturating_sub(j).div_ceil(b)
 }
 
 // The column of bit i.
@@ -34,7 +33,8 @@ pub fn column_of(b: usize, i: usize) -> usize
     i % b
 }
 
-// The next column: behind the last comes the first again. Loops over bits step the column so, without a division at each bit.
+// The next column: behind the last comes the first again. Loops over bits step the column so, without a division at each bit; the repairs
+// gone through again and again (`cycle`) would have to be begun at a column and go beside the bits, which is no plainer.
 pub fn next_column(b: usize, j: usize) -> usize
     requires { j < b }
     ensures { result ≡ next_column b j }
@@ -45,8 +45,10 @@ pub fn next_column(b: usize, j: usize) -> usize
     0
 }
 
-// Column j of the b columns of a range: every b-th bit from bit j on.
-#[derive(Clone, Copy)]
+// Column j of the b columns of a range: every b-th bit from bit j on. No equality is derived, as for `BitRange`: it would compare whole
+// bytes, where equal bits may stand at other places of other bytes. That b is 2 to 32 is said here and in `Run`, and b is no type of its
+// own: questions, states and hosts have it as a number.
+#[derive(Clone, Copy, Debug)]
 pub struct Column<'a> {
     pub piece: BitRange<'a>,
     pub b: usize,
@@ -56,8 +58,18 @@ pub struct Column<'a> {
     ghost inside: { j < b },
 }
 
-// A range that is to become one of n bits by a run of b bits put in or taken out, one in each column.
-#[derive(Clone, Copy)]
+impl Column<'_> {
+    // How many bits it has.
+    pub(crate) fn len(self) -> usize
+        ensures { result ≡ column_length self.entry.b self.entry.j self.entry.piece.len }
+    {
+        column_length(self.b, self.j, self.piece.len)
+    }
+}
+
+// A range that is to become one of n bits by a run of b bits put in or taken out, one in each column. No equality is derived, as for
+// `Column`.
+#[derive(Clone, Copy, Debug)]
 pub struct Run<'a> {
     pub piece: BitRange<'a>,
     pub n: usize,

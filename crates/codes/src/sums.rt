@@ -1,5 +1,5 @@
 // The weighted sum of a range modulo m, kept below m after each bit by compare and subtract; the syndrome; and the count of ones.
-ghost use Rattle.std.specs.Prelude.{◌≡◌, [], ◌∷◌, ◌+◌, ◌-◌, ◌*◌, ◌≤◌, ◌<◌};
+ghost use Rattle.std.specs.Prelude.{◌≡◌, [], ◌∷◌, ◌+◌, ◌-◌, ◌*◌, ◌/◌, ◌≤◌, ◌<◌};
 ghost use Rattle.strings.specs.Bits.{range, byte_bits};
 ghost use Rattle.strings.specs.Ranges.{bits};
 ghost use Rattle.codes.specs.Syndrome.{weighted_sum, syndrome};
@@ -21,18 +21,18 @@ fn join(sums: &[u32], m: Modulus) -> u32
     all
 }
 
-// The sum of the first 8 * count bits, by bytes: bit k of each byte goes to sum k. A sum waits only for its own last bit, so that the eight
-// of a byte are added at the same time.
-fn sum_bytes(s: BitRange, count: usize, m: Modulus) -> u32
-    requires count_le_len { 8 * count ≤ s.len }
-    requires count_bound { 8 * count ≤ m.m }
-    ensures { Residue m.m (weighted_sum 1 (range s.entry.bytes.now s.entry.start (8 * count))) result }
+// The sum over the whole bytes of a range: bit k of each byte goes to sum k. A sum waits only for its own last bit, so that the eight of a
+// byte are added at the same time. That m is not below the range's length stays a clause, here and below: a value of range and modulus
+// would be made for one sum, and is no plainer.
+fn sum_bytes(s: BitRange, m: Modulus) -> u32
+    requires { s.len ≤ m.m }
+    ensures { Residue m.m (weighted_sum 1 (range s.entry.bytes.now s.entry.start (8 * (s.entry.len / 8)))) result }
 {
     let mut sums: [u32; 8] = [0; 8];
-    for i in 0..count {
+    for i in 0..s.len / 8 {
         let v = s.byte(8 * i);
-        for k in 0..8 {
-            sums[k] = m.add_bit(sums[k], (8 * i + k + 1) as u32, (v >> (7 - k)) % 2 == 1);
+        for (k, sum) in sums.iter_mut().enumerate() {
+            *sum = m.add_bit(*sum, (8 * i + k + 1) as u32, (v >> (7 - k)) % 2 == 1);
         }
     }
     join(&sums, m)
@@ -57,9 +57,8 @@ pub fn sum_modulo(s: BitRange, m: Modulus) -> usize
     requires { s.len ≤ m.m }
     ensures { Residue m.m (weighted_sum 1 (bits s.entry)) result }
 {
-    let count = s.len / 8;
-    let bytes = sum_bytes(s, count, m);
-    sum_singly(s, 8 * count, bytes, m) as usize
+    let bytes = sum_bytes(s, m);
+    sum_singly(s, 8 * (s.len / 8), bytes, m) as usize
 }
 
 // The syndrome.
@@ -76,13 +75,12 @@ pub fn ones_byte(v: u8) -> u32
     v.count_ones()
 }
 
-// The ones of the first 8 * count bits, by bytes. Numbers of 32 bits are added four at a time, where those of 64 are two.
-fn ones_bytes(s: BitRange, count: usize) -> u32
-    requires { 8 * count ≤ s.len }
-    ensures { result ≡ ones (range s.entry.bytes.now s.entry.start (8 * count)) }
+// The ones of the whole bytes of a range. Numbers of 32 bits are added four at a time, where those of 64 are two.
+fn ones_bytes(s: BitRange) -> u32
+    ensures { result ≡ ones (range s.entry.bytes.now s.entry.start (8 * (s.entry.len / 8))) }
 {
     let mut n: u32 = 0;
-    for i in 0..count {
+    for i in 0..s.len / 8 {
         n += ones_byte(s.byte(8 * i));
     }
     n
@@ -92,9 +90,8 @@ fn ones_bytes(s: BitRange, count: usize) -> u32
 pub fn ones_of(s: BitRange) -> usize
     ensures { result ≡ ones (bits s.entry) }
 {
-    let count = s.len / 8;
-    let mut n = ones_bytes(s, count) as usize;
-    for i in 8 * count..s.len {
+    let mut n = ones_bytes(s) as usize;
+    for i in 8 * (s.len / 8)..s.len {
         n += s.get(i) as usize;
     }
     n

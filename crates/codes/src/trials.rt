@@ -1,48 +1,27 @@
-// Trials: a candidate for some bits is hashed where it stands, and written into a buffer only if it has the hash v. A candidate that has
-// another hash never gets into the buffer.
-ghost use Rattle.std.specs.Prelude.{◌≡◌, length};
+// Trials of a range, as it is and with one bit put in or taken out: it is written into a buffer only if it has the hash v.
+ghost use Rattle.std.specs.Prelude.{◌≡◌};
 ghost use Rattle.std.proofs.Math.Option.{some};
 ghost use Rattle.strings.specs.Bits.{Part};
 ghost use Rattle.strings.specs.Ranges.{bits};
 ghost use Rattle.codes.specs.Repair.{OneApart, repair_to};
 ghost use Rattle.codes.specs.Trials.{agreeing, tried_at};
-ghost use Rattle.codes.specs.code.Edits.{edited, Fits};
 
-use crate::edits::Edit;
+use crate::candidates::try_candidate;
+use crate::edits::Edited;
 use crate::rows::HashKey;
 use strings::BitRange;
 
 // The range as it is.
-#[tactic(auto, unfolding(crate::specs::Trials::agreeing))]
 pub fn try_copy(s: BitRange, v: u32, k: HashKey, to: &mut [u8], at: usize) -> bool
     requires { Part to.old at s.len }
     ensures { record { settled = result; buffer = to.new }
         ≡ tried_at to.old at (agreeing k.h k.key v (some (bits s.entry))) }
 {
-    if k.hash(s) != v {
-        return false;
-    }
-    strings::copy_bits(s, to, at);
-    true
+    try_candidate(&s, v, k, to, at)
 }
 
-// The edited range.
-#[tactic(auto, unfolding(crate::specs::Trials::agreeing))]
-fn try_edit(s: BitRange, e: Edit, v: u32, k: HashKey, to: &mut [u8], at: usize) -> bool
-    requires fits { Fits e s.len }
-    requires part { Part to.old at (length (edited e (bits s))) }
-    ensures { record { settled = result; buffer = to.new }
-        ≡ tried_at to.old at (agreeing k.h k.key v (some (edited e (bits s.entry)))) }
-{
-    let hashed = crate::edits::hash_edited(s, e, k);
-    if hashed != v {
-        return false;
-    }
-    crate::edits::copy_edited(s, e, to, at);
-    true
-}
-
-// The repair of the range to n bits, one more or one less, of syndrome a, if there is one.
+// The repair of the range to n bits, one more or one less, of syndrome a, if there is one. One value of n and a is no plainer: what holds
+// of both, a at most n, is tested by the calls, and no repair requires it.
 #[tactic(auto, unfolding(crate::specs::Trials::agreeing))]
 pub fn try_repair(
     s: BitRange,
@@ -60,6 +39,6 @@ pub fn try_repair(
 {
     match crate::places::find_repair(s, n, a) {
         None => false,
-        Some(e) => try_edit(s, e, v, k, to, at),
+        Some(edit) => try_candidate(&Edited { piece: s, edit }, v, k, to, at),
     }
 }

@@ -1,26 +1,28 @@
 // The repaired columns of a range woven to one piece, read bit by bit from the range: its hash and its copy. Nothing of it is stored before
 // it is known that it is the answer.
 ghost use Rattle.std.specs.Prelude.{◌≡◌, ◌+◌, ◌-◌, ◌≤◌, ◌<◌};
-ghost use Rattle.strings.specs.Bits.{max_bits, write_bits, Part};
+ghost use Rattle.strings.specs.Bits.{range, write_bits, Part};
 ghost use Rattle.strings.specs.Ranges.{bits};
-ghost use Rattle.codes.specs.Hash.{hash};
 ghost use Rattle.codes.specs.code.HashForms.{Went};
 ghost use Rattle.codes.specs.code.Weaving.{bit_put, bit_taken, woven_bit, woven_from, woven, Placed, Spans, Around, behind_place};
 ghost use Rattle.codes.specs.code.Runs.{places, put_bits};
 
+use crate::candidates::Candidate;
 use crate::rows::{HashKey, Hashing};
 use crate::shape::{Run, column_of, next_column};
 use strings::BitRange;
 
-// The repair of one column: the place of its edit in the piece, and the bit that is put in, if one is.
-#[derive(Clone, Copy)]
+// The repair of one column: the place of its edit in the piece, and the bit that is put in. Where a bit is taken out, `bit` says nothing:
+// an `Option` in its place is no plainer, since it would be told apart at each bit, and the run's two lengths say already which it is.
+#[derive(Clone, Copy, Debug, Default, PartialEq, Eq)]
 pub struct ColumnRepair {
     pub place: usize,
     pub bit: bool,
 }
 
-// The repaired columns as one piece, with the repairs of all of them.
-#[derive(Clone, Copy)]
+// The repaired columns as one piece, with the repairs of all of them, the first b of the array: there is no heap for b of them. No equality
+// is derived, as for `BitRange`.
+#[derive(Clone, Copy, Debug)]
 pub struct Woven<'a> {
     pub run: Run<'a>,
     pub repairs: [ColumnRepair; 32],
@@ -28,21 +30,23 @@ pub struct Woven<'a> {
 }
 
 // The least and the greatest of the places of the edits.
-#[derive(Clone, Copy)]
+#[derive(Clone, Copy, Debug, PartialEq, Eq)]
 struct Span {
     low: usize,
     high: usize,
 }
 
 // The bits of the repaired range from bit `from` to bit `behind`. Those before and behind are the range's, all of them the same number of
-// bits away, so that they are hashed and copied by bytes. After one run lost or gained there is little between.
-#[derive(Clone, Copy)]
+// bits away, so that they are hashed and copied by bytes. After one run lost or gained there is little between. Its bounds stay clauses:
+// they are of the woven range, which a Middle would have to hold.
+#[derive(Clone, Copy, Debug, PartialEq, Eq)]
 struct Middle {
     from: usize,
     behind: usize,
 }
 
-// Bit i of the range with one bit put into each column, of which that of bit i has x put in at bit p.
+// Bit i of the range with one bit put into each column, of which that of bit i has x put in at bit p. Place and bit stand apart, here and
+// below, and b beside the range, as in the definitions: a `ColumnRepair` would be taken apart again in each clause, and is no plainer.
 #[tactic(auto, using(strings::proofs::laws::RangeLaws::range_at))]
 fn bit_put(s: BitRange, b: usize, i: usize, p: usize, x: bool) -> bool
     requires b_bound { b ≤ 32 }
@@ -96,17 +100,16 @@ fn behind_place(run: Run, i: usize) -> usize
     i + run.b
 }
 
-impl Woven<'_> {
+impl<'a> Woven<'a> {
     fn span(&self) -> Span
         ensures spans { Spans self.now.run.b result.low result.high (places self.now.repairs) }
         ensures high_bound { result.high < self.now.run.piece.len + self.now.run.b }
     {
         let mut low = self.repairs[0].place;
         let mut high = low;
-        for j in 1..self.run.b {
-            let place = self.repairs[j].place;
-            low = low.min(place);
-            high = high.max(place);
+        for one in &self.repairs[1..self.run.b] {
+            low = low.min(one.place);
+            high = high.max(one.place);
         }
         Span { low, high }
     }
@@ -123,6 +126,19 @@ impl Woven<'_> {
         }
     }
 
+    // The bits of the range behind the middle.
+    fn behind(&self, m: Middle) -> BitRange<'a>
+        requires { Around self.now.run.b self.now.run.n (places self.now.repairs) m.from m.behind }
+        ensures taken { bits result
+            ≡ range self.now.run.piece.bytes.now (self.now.run.piece.start + behind_place self.now.run.piece.len self.now.run.n self.now.run.b m.behind) (self.now.run.n - m.behind) }
+        ensures len { result.len ≡ self.now.run.n - m.behind }
+    {
+        let Run { piece, n, .. } = self.run;
+        piece
+            .skip(behind_place(self.run, m.behind))
+            .first(n - m.behind)
+    }
+
     // The bits of the middle more, in a hash under way.
     fn hash_middle(&self, m: Middle, before: Hashing) -> Hashing
         requires { (m.from ≤ m.behind) × (m.behind ≤ self.now.run.n) }
@@ -130,6 +146,7 @@ impl Woven<'_> {
     {
         let run = self.run;
         let mut all = before;
+        // A counter beside the loop, as `next_column` says.
         let mut j = column_of(run.b, m.from);
         for i in m.from..m.behind {
             let one = self.repairs[j];
@@ -137,21 +154,6 @@ impl Woven<'_> {
             j = next_column(run.b, j);
         }
         all
-    }
-
-    // The hash of the repaired range, which is not stored.
-    pub fn hash(&self, k: HashKey) -> u32
-        ensures { result ≡ hash k.h k.key (woven (bits self.now.run.piece) self.now.run.n self.now.run.b (places self.now.repairs) (put_bits self.now.repairs)) }
-    {
-        let Run { piece, n, .. } = self.run;
-        let m = self.middle();
-        let before = k.start().over(piece.first(m.from));
-        let here = self.hash_middle(m, before);
-        let behind = piece
-            .skip(behind_place(self.run, m.behind))
-            .first(n - m.behind);
-        let all = here.over(behind);
-        k.cut(all)
     }
 
     // The bits of the middle are written into `to` from place `at` on.
@@ -162,6 +164,7 @@ impl Woven<'_> {
             ≡ write_bits to.old at (woven_from (bits self.now.run.piece) self.now.run.n self.now.run.b (places self.now.repairs) (put_bits self.now.repairs) m.from (m.behind - m.from)) }
     {
         let run = self.run;
+        // A counter beside the loop, as `next_column` says.
         let mut j = column_of(run.b, m.from);
         for i in m.from..m.behind {
             let one = self.repairs[j];
@@ -170,20 +173,24 @@ impl Woven<'_> {
             j = next_column(run.b, j);
         }
     }
+}
 
-    // The repaired range is written into `to` from place `at` on.
-    pub fn copy(&self, to: &mut [u8], at: usize)
-        requires { Part to.old at self.now.run.n }
-        ensures { to.new
-            ≡ write_bits to.old at (woven (bits self.now.run.piece) self.now.run.n self.now.run.b (places self.now.repairs) (put_bits self.now.repairs)) }
-    {
-        let Run { piece, n, .. } = self.run;
+// The repaired range.
+impl Candidate for Woven<'_> {
+    ghost candidate = { λ w. woven (bits w.run.piece) w.run.n w.run.b (places w.repairs) (put_bits w.repairs) };
+
+    fn hash(&self, k: HashKey) -> u32 {
         let m = self.middle();
-        strings::copy_bits(piece.first(m.from), to, at);
+        let before = k.start().over(self.run.piece.first(m.from));
+        let here = self.hash_middle(m, before);
+        let all = here.over(self.behind(m));
+        k.cut(all)
+    }
+
+    fn copy(&self, to: &mut [u8], at: usize) {
+        let m = self.middle();
+        strings::copy_bits(self.run.piece.first(m.from), to, at);
         self.copy_middle(m, to, at + m.from);
-        let behind = piece
-            .skip(behind_place(self.run, m.behind))
-            .first(n - m.behind);
-        strings::copy_bits(behind, to, at + m.behind);
+        strings::copy_bits(self.behind(m), to, at + m.behind);
     }
 }

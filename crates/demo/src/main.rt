@@ -4,7 +4,7 @@
 
 ghost use Rattle.std.specs.Prelude.{◌≤◌, length, IfOk};
 
-use ends::{Holder, HolderOut, Rebuilder, RebuilderOut, Row};
+use ends::{Holder, Rebuilder, Row};
 use lines::Line;
 use std::io;
 use std::io::{ErrorKind, Read};
@@ -12,25 +12,24 @@ use strings::{MOST_BITS, Refusal, Settings};
 
 // How far the run is: a question of so many bytes waits for its answer, or none where X is rebuilt, or a call was turned down. And both
 // ends' states.
-#[derive(Clone, Copy)]
+#[derive(Clone, Copy, Debug, PartialEq, Eq)]
 struct Session {
     progress: Result<Option<usize>, Refusal>,
     holder: Holder,
     rebuilder: Rebuilder,
 }
 
-// The course of a run: the session, and the sheet of 16,385 rows, enough for any run: 2 * (65536 / 8) + 1.
-#[derive(Clone, Copy)]
-struct Course {
-    session: Session,
+// What the rebuilder's calls are lent: the sheet of 16,385 rows, enough for any run: 2 * (65536 / 8) + 1; the buffers of the string and of
+// the question.
+#[derive(Debug, PartialEq, Eq, Drop)]
+struct Buffers {
     sheet: [Row; 16385],
+    string: [u8; 8192],
+    question: [u8; 8],
 }
 
-fn print(rt: &impl Print, text: &[u8]) -> io::Result<()> {
-    rt.write_all(text)
-}
-
-// Reads until the buffer is full or the input ends: how many bytes there are. An interrupted read is tried again.
+// Reads until the buffer is full or the input ends: how many bytes there are. An interrupted read is tried again. By hand, since read_exact
+// of std fails where the input ends, and read_to_end needs a heap. The loop's bound only lets the prover see the end.
 fn read_full(input: &mut impl Read, buffer: &mut [u8]) -> io::Result<usize>
     ensures { IfOk result (λ n. n ≤ length buffer.new) }
 {
@@ -53,7 +52,7 @@ fn read_full(input: &mut impl Read, buffer: &mut [u8]) -> io::Result<usize>
 }
 
 // A string: its bytes and its bit count. The library's calls take the two apart, as a host hands them in, and test them.
-#[derive(Clone, Copy)]
+#[derive(Clone, Copy, Debug, PartialEq, Eq)]
 struct Text<'a> {
     bytes: &'a [u8],
     bits: usize,
@@ -64,24 +63,24 @@ fn print_message(rt: &impl Print, letter: u8, message: &[u8]) -> io::Result<()>
 {
     let mut line = Line::<16403>::new();
     line.put_message_line(letter, message);
-    print(rt, line.bytes())
+    rt.write_all(line.bytes())
 }
 
 // The line of a call that is turned down.
 fn print_refusal(rt: &impl Print, e: Refusal) -> io::Result<()> {
     let mut line = Line::<13>::new();
     line.put_refusal_line(u32::from(e));
-    print(rt, line.bytes())
+    rt.write_all(line.bytes())
 }
 
 fn print_row(rt: &impl Print, row: Row) -> io::Result<()> {
     let mut line = Line::<35>::new();
     line.put_row_line(row.start, row.len, row.how);
-    print(rt, line.bytes())
+    rt.write_all(line.bytes())
 }
 
 // The used rows in the sheet's order; no run has more rows than the sheet.
-fn print_rows(rt: &impl Print, sheet: [Row; 16385], used: u32) -> io::Result<()> {
+fn print_rows(rt: &impl Print, sheet: &[Row], used: u32) -> io::Result<()> {
     for row in sheet.iter().take(used as usize) {
         print_row(rt, *row)?;
     }
@@ -99,94 +98,53 @@ fn print_last(rt: &impl Print, string: &[u8; 8192], st: Rebuilder) -> io::Result
     }
     let mut line = Line::<65561>::new();
     line.put_last_line(string, st.n as usize, st.answered - 1, st.counted);
-    print(rt, line.bytes())
+    rt.write_all(line.bytes())
 }
 
-// An answer goes to the rebuilder, whose call is lent the sheet.
-fn hear(
-    s: Session,
-    y: Text,
-    answer: &[u8],
-    mut sheet: [Row; 16385],
-    string: &mut [u8],
-    question: &mut [u8],
-) -> Course {
+// An answer goes to the rebuilder.
+fn hear(s: Session, y: Text, answer: &[u8], lent: &mut Buffers) -> Session {
     let out = ends::rebuilder_call_on_sheet(
         s.rebuilder,
         y.bytes,
         y.bits,
         answer,
-        &mut sheet,
-        string,
-        question,
+        &mut lent.sheet,
+        &mut lent.string,
+        &mut lent.question,
     );
-    let session = Session {
+    Session {
         progress: out.answer,
         rebuilder: out.state,
         ..s
-    };
-    Course { session, sheet }
+    }
 }
 
-// The answer is printed and goes to the rebuilder.
-fn tell(
-    rt: &impl Print,
-    s: Session,
-    y: Text,
-    answer: &[u8],
-    sheet: [Row; 16385],
-    string: &mut [u8; 8192],
-    question: &mut [u8; 8],
-) -> io::Result<Course>
-    requires { length answer.now ≤ 8200 }
-{
-    print_message(rt, b'A', answer)?;
-    Ok(hear(s, y, answer, sheet, string, question))
-}
-
-// The question is printed and goes to the holder.
-fn ask(
-    rt: &impl Print,
-    st: Holder,
-    x: Text,
-    question: &[u8],
-    reply: &mut [u8],
-) -> io::Result<HolderOut>
-    requires { length question.now ≤ 8200 }
-{
-    print_message(rt, b'Q', question)?;
-    Ok(ends::holder_call(st, x.bytes, x.bits, question, reply))
-}
-
-// A question of so many bytes goes to the holder, and its answer to the rebuilder.
+// A question of so many bytes goes to the holder, and its answer to the rebuilder; both are printed.
 fn exchange(
     rt: &impl Print,
     s: Session,
     size: usize,
     x: Text,
     y: Text,
-    sheet: [Row; 16385],
-    string: &mut [u8; 8192],
-    question: &mut [u8; 8],
-) -> io::Result<Course> {
+    lent: &mut Buffers,
+) -> io::Result<Session> {
     let mut reply = [0u8; 8200];
-    let asked = size.min(question.len());
-    let out = ask(rt, s.holder, x, &question[0..asked], &mut reply)?;
+    let question = &lent.question[..size.min(lent.question.len())];
+    print_message(rt, b'Q', question)?;
+    let out = ends::holder_call(s.holder, x.bytes, x.bits, question, &mut reply);
     match out.answer {
-        Err(e) => {
-            let session = Session {
-                progress: Err(e),
-                ..s
-            };
-            Ok(Course { session, sheet })
-        }
+        Err(e) => Ok(Session {
+            progress: Err(e),
+            ..s
+        }),
         Ok(length) => {
+            let answer = &reply[..length.min(reply.len())];
+            print_message(rt, b'A', answer)?;
             let next = Session {
                 holder: out.state,
                 ..s
             };
-            let sent = length.min(reply.len());
-            tell(rt, next, y, &reply[0..sent], sheet, string, question)
+            Ok(hear(next, y, answer, lent))
         }
     }
 }
@@ -197,56 +155,48 @@ fn converse(
     first: Session,
     x: Text,
     y: Text,
-    string: &mut [u8; 8192],
-    question: &mut [u8; 8],
-) -> io::Result<Course> {
+    lent: &mut Buffers,
+) -> io::Result<Session> {
     let mut s = first;
-    let none = Row {
-        start: 0,
-        len: 0,
-        how: 0,
-    };
-    let mut sheet = [none; 16385];
     // Above the 10 * floor(n / m) + 6 questions that demand 3 allows, 81,926 at most; the bound only lets the prover see the end.
     for _ in 0..100000 {
         let Ok(Some(size)) = s.progress else {
             break;
         };
-        let after = exchange(rt, s, size, x, y, sheet, string, question)?;
-        s = after.session;
-        sheet = after.sheet;
+        s = exchange(rt, s, size, x, y, lent)?;
     }
-    Ok(Course { session: s, sheet })
+    Ok(s)
 }
 
 // The lines after the last answer. No question can still wait here: `converse` has more rounds than any run has questions.
-fn print_end(rt: &impl Print, course: Course, string: &[u8; 8192]) -> io::Result<()> {
-    let rebuilder = course.session.rebuilder;
-    match course.session.progress {
+fn print_end(rt: &impl Print, s: Session, lent: &Buffers) -> io::Result<()> {
+    match s.progress {
         Ok(Some(_)) => print_refusal(rt, Refusal::OutOfTurn),
         Err(e) => print_refusal(rt, e),
         Ok(None) => {
-            print_rows(rt, course.sheet, rebuilder.rows)?;
-            print_last(rt, string, rebuilder)
+            print_rows(rt, &lent.sheet, s.rebuilder.rows)?;
+            print_last(rt, &lent.string, s.rebuilder)
         }
     }
 }
 
 // The run for X and Y.
 fn run(rt: &impl Print, settings: Settings, x: Text, y: Text) -> io::Result<()> {
-    let mut question = [0u8; 8];
-    let start = ends::rebuilder_start(settings, y.bytes, y.bits, &mut question);
-    match start.answer {
+    let mut lent = Buffers {
+        sheet: [Row::default(); 16385],
+        string: [0; 8192],
+        question: [0; 8],
+    };
+    match ends::rebuilder_start(settings, y.bytes, y.bits, &mut lent.question) {
         Err(e) => print_refusal(rt, e),
-        Ok(size) => {
-            let mut string = [0u8; 8192];
+        Ok(started) => {
             let first = Session {
-                progress: Ok(Some(size)),
+                progress: Ok(Some(started.size)),
                 holder: ends::fresh_holder(),
-                rebuilder: start.state,
+                rebuilder: started.state,
             };
-            let last = converse(rt, first, x, y, &mut string, &mut question)?;
-            print_end(rt, last, &string)
+            let last = converse(rt, first, x, y, &mut lent)?;
+            print_end(rt, last, &lent)
         }
     }
 }
@@ -255,7 +205,7 @@ fn run(rt: &impl Print, settings: Settings, x: Text, y: Text) -> io::Result<()> 
 fn byte_count(bits: usize) -> usize
     ensures { result ≤ 8192 }
 {
-    bits.min(strings::MAX_BITS).div_ceil(8)
+    strings::bytes_for(bits.min(strings::MAX_BITS))
 }
 
 // A run on settings within their limits: the lines of X and Y are read.
@@ -269,11 +219,11 @@ fn run_lines(rt: &impl Print, settings: Settings, input: &[u8]) -> io::Result<()
         return print_refusal(rt, Refusal::BadString);
     };
     let reference = Text {
-        bytes: &x[0..byte_count(xbits)],
+        bytes: &x[..byte_count(xbits)],
         bits: xbits,
     };
     let copy = Text {
-        bytes: &y[0..byte_count(ybits)],
+        bytes: &y[..byte_count(ybits)],
         bits: ybits,
     };
     run(rt, settings, reference, copy)
@@ -294,5 +244,5 @@ fn run_input(rt: &impl Print, input: &[u8]) -> io::Result<()> {
 fn main(rt: HostRuntime) -> io::Result<()> {
     let mut input = [0u8; 196611];
     let size = read_full(&mut rt.stdin(), &mut input)?;
-    run_input(&rt, &input[0..size])
+    run_input(&rt, &input[..size])
 }

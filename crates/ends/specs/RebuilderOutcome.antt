@@ -8,9 +8,9 @@ use Rattle.ends.specs.declared.SheetChange.TheVariants.{NoRow}
 use Rattle.ends.specs.States.{no_piece}
 use Rattle.strings.specs.declared.settings.Settings.{Settings}
 use Rattle.ends.specs.RebuilderCall.{Taken, string_after, Capacities, Started, rebuilder_start, rebuilder_call}
-use Rattle.ends.specs.declared.rebuilding.StartOut.{StartOut}
+use Rattle.ends.specs.declared.rebuilding.Started.{Started as CodeStarted}
 use Rattle.ends.specs.declared.rebuilding.RebuilderOut.{RebuilderOut}
-use Rattle.strings.specs.Results.{Result, refusal, value, said}
+use Rattle.strings.specs.Results.{Result, refusal, value}
 use Rattle.strings.specs.Bits.{at_front}
 use Rattle.strings.specs.Refusals.{refusal_number}
 use Rattle.strings.specs.declared.Refusal.{Refusal}
@@ -38,8 +38,9 @@ no_rebuilder = record {
   pieces = replicate 32 no_piece;
 }
 
-abbrev pub said_start : StartOut → List ℕ → StartSaid
-said_start r q = record { answer = said r.answer; state = r.state; question = q }
+abbrev pub said_start : CodeResult CodeStarted Refusal → List ℕ → StartSaid
+said_start (Ok b) q = record { answer = value b.size; state = b.state; question = q }
+said_start (Err e) q = record { answer = refusal (refusal_number e); state = no_rebuilder; question = q }
 
 -- turned down: the question buffer is as it was; begun: the opening question stands at its front
 abbrev pub leaves_start : List ℕ → Result Started → StartSaid

@@ -1,6 +1,6 @@
 // The anchor search: where the bits of an anchor stand in the copy's piece. `find_anchor` is for a host, on any input; `place_anchor` is
 // for the rebuilder, whose sound state keeps what it requires.
-ghost use Rattle.std.specs.Prelude.{◌≡◌, ◌+◌, ◌*◌, ◌≤◌, leb};
+ghost use Rattle.std.specs.Prelude.{◌≡◌, ◌*◌, ◌≤◌};
 ghost use Rattle.strings.specs.Bits.{max_bits};
 ghost use Rattle.strings.specs.Ranges.{bits};
 ghost use Rattle.ends.specs.Anchors.{isqrt as isqrt_of, place};
@@ -43,11 +43,13 @@ fn window_start(p: usize, due: usize, reach: usize, end: usize) -> usize
 }
 
 // The bits of an anchor, one in each place: the search compares them at every place of the copy, and takes them out of their bytes once.
+// There are 64 places, the most that an anchor needs, since memory is fixed.
 fn bits_of(anchor: BitRange) -> [bool; 64]
     requires { anchor.len ≤ 64 }
     ensures { BitsOf result anchor.entry.bytes.now anchor.entry.start anchor.entry.len }
 {
     let mut wanted = [false; 64];
+    // By index: over an iterator the search, which this becomes a part of, took up to twice as long.
     for j in 0..anchor.len {
         wanted[j] = anchor.get(j);
     }
@@ -92,23 +94,16 @@ fn keeps_anchor_settings(m: u32, k: u32) -> bool
     strings::is_anchor_length(m) && strings::is_window_factor(k)
 }
 
-// Whether start + len is at most end; the sum itself may not fit.
-fn ends_by(start: usize, len: usize, end: usize) -> bool
-    ensures { result ≡ leb (start + len) end }
-{
-    len <= end && start <= end - len
-}
-
 // Whether the piece is a range of the copy's bits, p is a string's length and the anchor lies inside the p bits.
 #[tactic(auto, unfolding(crate::specs::AnchorSearch::anchor_range))]
 fn keeps_anchor_range(bits: usize, start: usize, q: usize, p: usize, s: usize, m: usize) -> bool
     ensures { result ≡ anchor_range bits start q p s m }
 {
-    ends_by(start, q, bits) && p <= strings::MAX_BITS && ends_by(s, m, p)
+    strings::ends_by(start, q, bits) && p <= strings::MAX_BITS && strings::ends_by(s, m, p)
 }
 
 // The same search, for a host: y is the copy with its bit count, a is the anchor, a string of m bits. The answer is the place, or that
-// there is none.
+// there is none. The parameters stand apart, and bytes beside bit counts, as a host hands them in: they are tested here.
 #[tactic(auto, using(crate::specs::code::AnchorSearchLaws::said_place, crate::specs::code::AnchorSearchLaws::copy_part, crate::specs::code::AnchorSearchLaws::tested_ready, crate::specs::code::AnchorSearchLaws::anchor_part), unfolding(crate::specs::AnchorSearch::anchor_search))]
 pub fn find_anchor(
     y: &[u8],

@@ -17,7 +17,7 @@ mod steps;
 
 pub use anchors::find_anchor;
 pub use answering::{HolderOut, fresh_holder, holder_call};
-pub use rebuilding::{RebuilderOut, StartOut, rebuilder_call, rebuilder_start};
+pub use rebuilding::{RebuilderOut, Started, rebuilder_call, rebuilder_start};
 pub use sheet::rebuilder_call_on_sheet;
 
 // The most answers that a holder gives (specs/Soundness.antt: most_answers).
@@ -56,7 +56,7 @@ impl From<How> for u32 {
 
 // A row of the sheet: start and length in X, and the number of how. The number of a row of zeros is 0, which is no How: a sheet is
 // lent with such rows behind the used ones, as the C interface has them in bytes.
-#[derive(Clone, Copy, Debug, PartialEq, Eq)]
+#[derive(Clone, Copy, Debug, Default, PartialEq, Eq)]
 pub struct Row {
     pub start: u32,
     pub len: u32,
@@ -64,21 +64,13 @@ pub struct Row {
 }
 
 // A waiting piece: p bits of X from x on, paired with q bits of Y from y on.
-#[derive(Clone, Copy, Debug, PartialEq, Eq)]
+#[derive(Clone, Copy, Debug, Default, PartialEq, Eq)]
 pub struct Piece {
     pub x: u32,
     pub p: u32,
     pub y: u32,
     pub q: u32,
 }
-
-// An entry with no piece.
-pub const NO_PIECE: Piece = Piece {
-    x: 0,
-    p: 0,
-    y: 0,
-    q: 0,
-};
 
 // Step 4's anchors, in the order in which they are tried.
 #[derive(Clone, Copy, Debug, PartialEq, Eq)]
@@ -137,9 +129,9 @@ pub enum SheetChange {
     OneRow(u32, Row),
 }
 
-// The holder's state: whether it is opened, and from the opening on X's bit count, h, key and the answers given. The C interface keeps a flag
-// beside the numbers: a host's bytes may say both not opened and numbers, which is a state to be told apart and turned down.
-#[derive(Clone, Copy, Debug, PartialEq, Eq)]
+// The holder's state: whether it is opened, and from the opening on X's bit count, h, key and the answers given. The C interface keeps a
+// flag beside the numbers: a host's bytes may say both not opened and numbers, which is a state to be told apart and turned down.
+#[derive(Clone, Copy, Debug, Default, PartialEq, Eq)]
 pub struct Holder {
     pub opened: bool,
     pub bits: u32,

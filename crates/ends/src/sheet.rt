@@ -1,5 +1,5 @@
 // The sheet as a lent slice of rows, and the rebuilder's call over it. The functions on rows require that the sheet has them; the call
-// has tested the sheet's length when it comes to them, and requires nothing.
+// has tested the sheet's length when it comes to them, and requires nothing. `layout` has the same three on the sheet's bytes, and why.
 ghost use Rattle.std.specs.Prelude.{◌≡◌, [], ◌∷◌, ◌-◌, ◌≤◌, ◌<◌, length, replicate};
 ghost use Rattle.std.proofs.lemmas.List.Edits.{sets};
 ghost use Rattle.ends.specs.RebuilderCall.{no_row, sheet_after, rows_needed};
@@ -7,13 +7,6 @@ ghost use Rattle.ends.specs.SheetCall.{said_on_sheet, sheet_outcome};
 
 use crate::rebuilding::{RebuilderOut, rebuilder_call};
 use crate::{Rebuilder, Row, SheetChange};
-
-// A row of zeros.
-const NO_ROW: Row = Row {
-    start: 0,
-    len: 0,
-    how: 0,
-};
 
 // A row is written at its index.
 pub fn write_row(sheet: &mut [Row], at: usize, row: Row)
@@ -29,7 +22,7 @@ pub fn clear_rows(sheet: &mut [Row], from: usize, to: usize)
     ensures { sheet.new ≡ sets sheet.old from (replicate (to - from) no_row) }
 {
     if from < to {
-        sheet[from..to].fill(NO_ROW);
+        sheet[from..to].fill(Row::default());
     }
 }
 

@@ -1,16 +1,14 @@
 // Tests of the states that are handed in: whether a run can hold them (01, refusal 3; docs/STATE.md).
 ghost use Rattle.std.specs.Prelude.{◌≡◌, true, false, ◌+◌, ◌-◌, ◌*◌, ◌/◌, ◌≤◌, ◌<◌};
 ghost use Rattle.strings.specs.Bits.{max_bits};
-ghost use Rattle.ends.specs.Soundness.{bound, holder_sound, is_blank, blank_from, piece_fits, in_order, stage_fits, is_hashing, asks_before, stack_sound, opening_sound, pieces_sound, whole_sound, sound, top_fits, rows_in_limit, asks_fit, last_ask_fits, most_counted, phase_sound};
+ghost use Rattle.ends.specs.Soundness.{bound, holder_sound, is_blank, blank_from, piece_fits, in_order, stage_fits, asks_before, stack_sound, opening_sound, pieces_sound, whole_sound, sound, top_fits, rows_in_limit, asks_fit, last_ask_fits, most_counted, phase_sound};
 ghost use Rattle.ends.specs.Runs.{full, longest_answer};
 ghost use Rattle.ends.specs.States.{held};
 ghost use Rattle.ends.specs.code.StateCode.{Usable};
 ghost use Rattle.ends.specs.code.SoundCode.{Sized, Work, Sum};
 
 use crate::state::{is_burst, too_small, top, wide};
-use crate::{
-    Attempt, Holder, LONGEST_NUMBERS, MOST_ANSWERS, NO_PIECE, Phase, Piece, Rebuilder, Stage,
-};
+use crate::{Attempt, Holder, LONGEST_NUMBERS, MOST_ANSWERS, Phase, Piece, Rebuilder, Stage};
 use strings::{MOST_BITS, Settings, is_between, is_hash_width};
 
 // Whether a run can hold the holder's state.
@@ -24,7 +22,7 @@ pub fn holder_is_sound(st: Holder) -> bool
             && 1 <= st.key
             && is_between(1, st.answers, MOST_ANSWERS);
     }
-    st.bits == 0 && st.h == 0 && st.key == 0 && st.answers == 0
+    st == Holder::default()
 }
 
 // Whether no field of the piece is set.
@@ -32,24 +30,23 @@ pub fn holder_is_sound(st: Holder) -> bool
 fn is_blank(pc: Piece) -> bool
     ensures { result ≡ is_blank pc }
 {
-    pc == NO_PIECE
+    pc == Piece::default()
 }
 
-// Whether all entries behind the waiting pieces are zeros. All are looked at, also after one that is not: a
-// branch for each would be slower.
+// Whether all entries behind the waiting pieces are zeros. All are looked at, also after one that is not, without a branch for each.
 fn blank_behind(st: Rebuilder) -> bool
     requires { st.waiting ≤ 32 }
     ensures { result ≡ blank_from st.pieces (32 - st.waiting) st.waiting }
 {
     let mut blank = true;
-    for i in st.waiting as usize..32 {
-        blank &= is_blank(st.pieces[i]);
+    for &pc in &st.pieces[st.waiting as usize..] {
+        blank &= is_blank(pc);
     }
     blank
 }
 
 // How long a waiting piece with d others to its right can be.
-fn length_bound(d: u32) -> u32
+fn length_bound(d: usize) -> u32
     ensures { result ≡ bound d }
 {
     let mut b = MOST_BITS;
@@ -61,7 +58,7 @@ fn length_bound(d: u32) -> u32
 
 // Whether a waiting piece with d others to its right begins at x and y or later, ends by n and e, and is not too long.
 #[tactic(auto, unfolding(crate::specs::Soundness::piece_fits))]
-fn piece_fits(n: u64, e: u64, x: u64, y: u64, d: u32, pc: Piece) -> bool
+fn piece_fits(n: u64, e: u64, x: u64, y: u64, d: usize, pc: Piece) -> bool
     ensures { result ≡ piece_fits n e x y d pc }
 {
     let a = wide(pc.x);
@@ -80,8 +77,7 @@ fn in_order(st: Rebuilder) -> bool
     let e = wide(st.ybits);
     let mut x: u64 = 0;
     let mut y: u64 = 0;
-    for i in (0..st.waiting).rev() {
-        let pc = st.pieces[i as usize];
+    for (i, &pc) in st.pieces[..st.waiting as usize].iter().enumerate().rev() {
         if !piece_fits(n, e, x, y, i, pc) {
             return false;
         }
@@ -98,9 +94,8 @@ fn work_left(st: Rebuilder, a: u64, b: u64) -> u64
 {
     let m = wide(st.settings.m);
     let mut sum: u64 = 0;
-    for i in (0..st.waiting).rev() {
-        let p = wide(st.pieces[i as usize].p);
-        sum += a * (p / m) + b;
+    for &pc in &st.pieces[..st.waiting as usize] {
+        sum += a * (wide(pc.p) / m) + b;
     }
     sum
 }
@@ -157,27 +152,21 @@ fn last_ask_fits(st: Rebuilder) -> bool
     answered + 1 <= 9 * (n / m) + 6
 }
 
-// Whether the stage suits lengths p and q.
-fn stage_fits(s: Settings, p: u32, q: u32, t: Stage) -> bool
+// Whether the stage suits the piece's lengths.
+fn stage_fits(s: Settings, pc: Piece, t: Stage) -> bool
     requires { Usable s }
-    ensures { result ≡ stage_fits s p q t }
+    ensures { result ≡ stage_fits s pc.p pc.q t }
 {
-    let a = wide(p);
-    let b = wide(q);
+    let a = wide(pc.p);
+    let b = wide(pc.q);
     match t {
         Stage::Hashing => b == a,
         Stage::PuttingIn => b + 1 == a,
         Stage::TakingOut => b == a + 1,
-        Stage::Anchor(i) => !too_small(s, p, q),
+        Stage::Anchor(i) => !too_small(s, pc),
         Stage::AllBits => true,
-        Stage::Columns => is_burst(p, q),
+        Stage::Columns => is_burst(pc),
     }
-}
-
-fn is_hashing(t: Stage) -> bool
-    ensures { result ≡ is_hashing t }
-{
-    matches!(t, Stage::Hashing)
 }
 
 // Whether the stage suits the leftmost piece; it is Hashing if none waits.
@@ -187,10 +176,9 @@ fn top_stage_fits(st: Rebuilder) -> bool
     ensures { result ≡ top_fits st }
 {
     if st.waiting == 0 {
-        return is_hashing(st.stage);
+        return st.stage == Stage::Hashing;
     }
-    let pc = top(st);
-    stage_fits(st.settings, pc.p, pc.q, st.stage)
+    stage_fits(st.settings, top(st), st.stage)
 }
 
 // Whether the waiting pieces, the stage and the used rows are such as a run can hold.
@@ -207,7 +195,7 @@ fn full_size(n: u32) -> u32
     requires { n ≤ max_bits }
     ensures { result ≡ full n }
 {
-    1 + (n + 7) / 8
+    1 + n.div_ceil(8)
 }
 
 // The most bytes that one answer has.
@@ -229,7 +217,7 @@ fn most_counted(st: Rebuilder) -> u32
     st.settings.ceiling
 }
 
-// For a state that awaits the opening's answer.
+// For a state that awaits the opening's answer. Field by field: to compare with a state of zeros would be to make one of 564 bytes.
 #[tactic(auto, unfolding(crate::specs::Soundness::opening_sound))]
 fn opening_is_sound(st: Rebuilder) -> bool
     ensures { result ≡ opening_sound st }
@@ -238,7 +226,7 @@ fn opening_is_sound(st: Rebuilder) -> bool
         && st.answered == 0
         && st.counted == 0
         && st.rows == 0
-        && is_hashing(st.stage)
+        && st.stage == Stage::Hashing
         && st.waiting == 0
 }
 
@@ -282,17 +270,9 @@ fn phase_is_sound(st: Rebuilder) -> bool
 pub fn rebuilder_is_sound(st: Rebuilder) -> bool
     ensures { result ≡ sound st }
 {
-    if !st.settings.is_within_limits() {
-        return false;
-    }
-    if MOST_BITS < st.ybits {
-        return false;
-    }
-    if MOST_BITS < st.n {
-        return false;
-    }
-    if 32 < st.waiting {
-        return false;
-    }
-    blank_behind(st) && phase_is_sound(st)
+    let is_limited = st.settings.is_within_limits()
+        && st.ybits <= MOST_BITS
+        && st.n <= MOST_BITS
+        && st.waiting <= 32;
+    is_limited && blank_behind(st) && phase_is_sound(st)
 }

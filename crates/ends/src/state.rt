@@ -1,5 +1,7 @@
 // The rebuilder's state by value: the stack of waiting pieces, stages, counts, and the question that a state asks.
 // A step requires what every sound state of its phase has: the rebuilder tests a state once, at the start of its call.
+// Functions and no methods, here and in sound, answering and steps: `st.top()` would say no more than `top(st)`. What a step requires is
+// named (Holds, Counts, ..) and said once in StateCode.
 ghost use Rattle.std.specs.Prelude.{◌≡◌, true, cond, ◌&&◌, ◌+◌, ◌-◌, ◌*◌, ◌/◌, ◌≤◌, ◌<◌};
 ghost use Rattle.ends.specs.Anchors.{distance};
 ghost use Rattle.ends.specs.Segments.{too_small, is_burst, later_stage, first_stage, next_stage, after_anchor, offset, asks};
@@ -8,7 +10,7 @@ ghost use Rattle.ends.specs.RebuilderCall.{tallied, opening_step, whole_state, f
 ghost use Rattle.ends.specs.declared.Phase.TheVariants.{AtPieces, AtWhole};
 ghost use Rattle.ends.specs.code.StateCode.{plan_of, Usable, Holds, Stages, Retries, Offsets, Splits, Counts, Asks, Plans};
 
-use crate::{Attempt, NO_PIECE, Phase, Piece, Rebuilder, Stage};
+use crate::{Attempt, Phase, Piece, Rebuilder, Stage};
 use messages::Question;
 use strings::Settings;
 
@@ -29,7 +31,7 @@ pub fn pop(st: Rebuilder) -> Rebuilder
 {
     let mut s = st;
     s.waiting -= 1;
-    s.pieces[s.waiting as usize] = NO_PIECE;
+    s.pieces[s.waiting as usize] = Piece::default();
     s
 }
 
@@ -48,59 +50,59 @@ fn push(st: Rebuilder, pc: Piece) -> Rebuilder
     s
 }
 
-// The same number, wider: a sum of two such numbers can't overflow. std's conversion says the value alone, and of a field of a piece in an
-// array nothing else tells the bound.
+// The same number, wider: a sum of two such numbers can't overflow. Tried without: std's conversion says the value alone, and of a field of
+// a piece in an array no bound was proved.
 pub fn wide(v: u32) -> u64
     ensures { (result ≡ v) × (result ≤ 4294967295) }
 {
     v as u64
 }
 
-// That the settings are within their limits (Usable) stays a clause here and below: the states keep settings of any numbers, as a host's bytes
-// say them, and a checked copy made at each call would be no plainer.
+// That the settings are within their limits (Usable) stays a clause here, below and in `stage_fits`: the states keep settings of any
+// numbers, as a host's bytes say them, and a checked copy made at each call would be no plainer.
 
 // Whether a piece is too small for anchors.
 #[tactic(auto, unfolding(crate::specs::Segments::too_small))]
-pub fn too_small(s: Settings, p: u32, q: u32) -> bool
+pub fn too_small(s: Settings, pc: Piece) -> bool
     requires { Usable s }
-    ensures { result ≡ too_small s p q }
+    ensures { result ≡ too_small s pc.p pc.q }
 {
-    p < 4 * (s.m + s.h) || q < s.m
+    pc.p < 4 * (s.m + s.h) || pc.q < s.m
 }
 
 // The stage of step 4.
 #[tactic(auto, unfolding(crate::specs::Segments::later_stage))]
-fn later_stage(s: Settings, p: u32, q: u32) -> Stage
+fn later_stage(s: Settings, pc: Piece) -> Stage
     requires { Usable s }
-    ensures { result ≡ later_stage s p q }
+    ensures { result ≡ later_stage s pc.p pc.q }
 {
-    if too_small(s, p, q) {
+    if too_small(s, pc) {
         return Stage::AllBits;
     }
     Stage::Anchor(Attempt::First)
 }
 
-// By how many bits the lengths p and q differ.
-pub fn length_distance(p: u32, q: u32) -> u32
-    ensures { result ≡ distance p q }
+// By how many bits a piece's lengths p and q differ.
+pub fn length_distance(pc: Piece) -> u32
+    ensures { result ≡ distance pc.p pc.q }
 {
-    p.abs_diff(q)
+    pc.p.abs_diff(pc.q)
 }
 
 // Whether they differ by 2 to 32 (02, CR 1).
-pub fn is_burst(p: u32, q: u32) -> bool
-    ensures { result ≡ is_burst p q }
+pub fn is_burst(pc: Piece) -> bool
+    ensures { result ≡ is_burst pc.p pc.q }
 {
-    codes::is_column_count(length_distance(p, q))
+    codes::is_column_count(length_distance(pc))
 }
 
 // The stage at which a piece begins.
-fn first_stage(s: Settings, p: u32, q: u32) -> Stage
+fn first_stage(s: Settings, pc: Piece) -> Stage
     requires { Usable s }
-    ensures { result ≡ first_stage s p q }
+    ensures { result ≡ first_stage s pc.p pc.q }
 {
-    let a = wide(p);
-    let b = wide(q);
+    let a = wide(pc.p);
+    let b = wide(pc.q);
     if b == a {
         return Stage::Hashing;
     }
@@ -110,10 +112,10 @@ fn first_stage(s: Settings, p: u32, q: u32) -> Stage
     if b == a + 1 {
         return Stage::TakingOut;
     }
-    if is_burst(p, q) {
+    if is_burst(pc) {
         return Stage::Columns;
     }
-    later_stage(s, p, q)
+    later_stage(s, pc)
 }
 
 // The stage after an anchor that can't be placed.
@@ -127,15 +129,13 @@ fn after_anchor(i: Attempt) -> Stage
     }
 }
 
-// The stage after stage t.
-fn next_stage(s: Settings, p: u32, q: u32, t: Stage) -> Stage
+// The stage of a piece after stage t.
+fn next_stage(s: Settings, pc: Piece, t: Stage) -> Stage
     requires { Usable s }
-    ensures { result ≡ next_stage s p q t }
+    ensures { result ≡ next_stage s pc.p pc.q t }
 {
     match t {
-        Stage::Hashing | Stage::PuttingIn | Stage::TakingOut | Stage::Columns => later_stage(
-            s, p, q,
-        ),
+        Stage::Hashing | Stage::PuttingIn | Stage::TakingOut | Stage::Columns => later_stage(s, pc),
         Stage::Anchor(i) => after_anchor(i),
         Stage::AllBits => Stage::AllBits,
     }
@@ -153,9 +153,9 @@ pub fn restage(st: Rebuilder) -> Rebuilder
             ..st
         };
     }
-    // Not by `top`, which would copy the state once more.
+    // Not by `top`, which would copy the state once more: this is done at each answer that settles a piece.
     let pc = st.pieces[(st.waiting - 1) as usize];
-    let stage = first_stage(st.settings, pc.p, pc.q);
+    let stage = first_stage(st.settings, pc);
     Rebuilder { stage, ..st }
 }
 
@@ -165,8 +165,7 @@ pub fn retry(st: Rebuilder) -> Rebuilder
     requires { Retries st }
     ensures { result ≡ retried st }
 {
-    let pc = top(st);
-    let stage = next_stage(st.settings, pc.p, pc.q, st.stage);
+    let stage = next_stage(st.settings, top(st), st.stage);
     Rebuilder { stage, ..st }
 }
 
@@ -273,7 +272,7 @@ pub fn whole_state(st: Rebuilder, size: u32) -> Rebuilder
         rows: 1,
         stage: Stage::Hashing,
         waiting: 0,
-        pieces: [NO_PIECE; 32],
+        pieces: [Piece::default(); 32],
         ..st
     }
 }
@@ -292,7 +291,7 @@ pub fn fresh_rebuilder(settings: Settings, bits: u32) -> Rebuilder
         rows: 0,
         stage: Stage::Hashing,
         waiting: 0,
-        pieces: [NO_PIECE; 32],
+        pieces: [Piece::default(); 32],
     }
 }
 
@@ -307,7 +306,7 @@ fn ask_for(s: Settings, t: Piece, stage: Stage) -> Question
         Stage::TakingOut => Question::AskSyndrome(t.x, t.p),
         Stage::Anchor(i) => Question::AskBits(t.x + anchor_offset(s.m, t.p, i), s.m),
         Stage::AllBits => Question::AskBits(t.x, t.p),
-        Stage::Columns => Question::AskBurst(t.x, t.p, length_distance(t.p, t.q)),
+        Stage::Columns => Question::AskBurst(t.x, t.p, length_distance(t)),
     }
 }
 

@@ -1,7 +1,11 @@
 // What an answer that was read makes of state, string, sheet and question: steps 1 to 4 of 01, "The rebuilder", and the whole string.
-// The functions require what the call has tested before it comes to them: a sound state that asks this question, and buffers that are long enough.
+// The functions require what the call has tested before it comes to them: a sound state that asks this question, and buffers that are long
+// enough. The latter stays a clause of each function, and the buffers two parameters: a struct with lent buffers would say in each clause
+// that it keeps what was lent, and an array of 8 bytes would leave the question's bytes behind it out of what is promised. How many of an
+// answer's bits count is what the state asks for, so that they stay bytes with a clause: a range would need a clause for its length.
 ghost use Rattle.std.specs.Prelude.{◌≡◌, true, List, ℕ, ◌+◌, ◌*◌, ◌≤◌, ◌<◌, length, take};
 ghost use Rattle.strings.specs.Bits.{range, bytes_for, max_bits, at_front};
+ghost use Rattle.strings.specs.Ranges.{bits};
 ghost use Rattle.messages.specs.Answers.{size_answer, hash_answer, syndrome_answer, bits_answer, burst_answer};
 ghost use Rattle.ends.specs.Segments.{row};
 ghost use Rattle.ends.specs.States.{top, popped, restaged, retried, split_at, planned};
@@ -12,7 +16,7 @@ ghost use Rattle.ends.specs.declared.How.TheVariants.{ByAnchor};
 ghost use Rattle.ends.specs.declared.Stage.TheVariants.{Hashing, Anchor, AllBits};
 ghost use Rattle.ends.specs.RebuilderCall.{tallied, written_question};
 ghost use Rattle.ends.specs.RebuilderOutcome.{said_rebuilder};
-ghost use Rattle.ends.specs.code.StateCode.{plan_of};
+ghost use Rattle.ends.specs.code.StateCode.{plan_of, Counts};
 ghost use Rattle.ends.specs.code.RebuilderParts.{next_answer, OutIs, Acting, Splitting, Lending, Retriable, RepairDue, BurstDue, burst_of, AsksBits, bits_of_stage, repair_how, step_outcome, WholeDue, Opening, BitsDue, due_length};
 
 use crate::rebuilding::RebuilderOut;
@@ -63,13 +67,17 @@ fn finish(s: Rebuilder, change: SheetChange, question: &mut [u8]) -> RebuilderOu
     give(answer, s, change)
 }
 
-// An answer of `size` bytes to what a sound state asks of its leftmost piece, and the copy Y.
-#[derive(Clone, Copy)]
+// An answer of `size` bytes to what a sound state asks of its leftmost piece, and the copy Y. No equality is derived: it would compare all
+// of Y.
+#[derive(Clone, Copy, Debug)]
 pub struct Turn<'a> {
     pub st: Rebuilder,
+    // The leftmost piece, which nearly every step looks at: `state::top` copies the state.
+    pub piece: Piece,
     pub y: &'a [u8],
     pub size: u32,
     ghost acting: { Acting st size 8 },
+    ghost leftmost: { piece ≡ top st },
     ghost copy: { st.ybits ≤ 8 * length y.now },
 }
 
@@ -82,18 +90,36 @@ impl<'a> Turn<'a> {
         ensures y { result.y.now ≡ y.now }
         ensures size { result.size ≡ length msg.now }
     {
+        Turn::of_size(st, y, msg.len() as u32)
+    }
+
+    // An answer of that many bytes.
+    fn of_size(st: Rebuilder, y: &'a [u8], size: u32) -> Turn<'a>
+        requires acting { Acting st size 8 }
+        requires copy { st.ybits ≤ 8 * length y.now }
+        ensures st { result.st ≡ st }
+        ensures y { result.y.now ≡ y.now }
+        ensures size { result.size ≡ size }
+    {
         Turn {
             st,
+            piece: state::top(st),
             y,
-            size: msg.len() as u32,
+            size,
         }
     }
 
-    // The leftmost piece.
-    fn piece(self) -> Piece
-        ensures { result ≡ top self.entry.st }
+    // The leftmost piece's copy: the q bits of Y that it is paired with.
+    fn copy(self) -> BitRange<'a>
+        ensures bits { bits result ≡ range self.entry.y.now (top self.entry.st).y (top self.entry.st).q }
+        ensures len { result.len ≡ (top self.entry.st).q }
     {
-        state::top(self.st)
+        let t = self.piece;
+        BitRange {
+            bytes: self.y,
+            start: t.y as usize,
+            len: t.q as usize,
+        }
     }
 
     // The settings' hash.
@@ -107,21 +133,30 @@ impl<'a> Turn<'a> {
     }
 }
 
+// An answer of `size` bytes, which made the state `next` and brings a row, is counted. The row goes behind the used ones.
+fn add_row(next: Rebuilder, size: u32, line: Row, question: &mut [u8]) -> RebuilderOut
+    requires question_room { 8 ≤ length question.old }
+    requires counts { Counts next size 1 }
+    requires sound_next { sound (tallied next size 1) ≡ true }
+    ensures { OutIs result (tallied next size 1) (AddRow next.rows line) question.old question.new }
+{
+    let s = state::tally(next, size, 1);
+    finish(s, SheetChange::AddRow(next.rows, line), question)
+}
+
 // The leftmost piece is settled.
 fn settle(turn: Turn, how: How, question: &mut [u8]) -> RebuilderOut
     requires { 8 ≤ length question.old }
     ensures { OutIs result (tallied (restaged (popped turn.entry.st)) turn.entry.size 1) (AddRow turn.entry.st.rows (row (top turn.entry.st).x (top turn.entry.st).p how)) question.old question.new }
 {
-    let t = turn.piece();
-    let one = state::pop(turn.st);
-    let two = state::restage(one);
-    let s = state::tally(two, turn.size, 1);
+    let t = turn.piece;
+    let rest = state::pop(turn.st);
     let line = Row {
         start: t.x,
         len: t.p,
         how: u32::from(how),
     };
-    finish(s, SheetChange::AddRow(turn.st.rows, line), question)
+    add_row(state::restage(rest), turn.size, line, question)
 }
 
 // The leftmost piece is not settled, and goes to its next stage.
@@ -141,15 +176,13 @@ fn split(turn: Turn, s: u32, r: u32, question: &mut [u8]) -> RebuilderOut
     requires splitting { Splitting turn.st s r }
     ensures { OutIs result (tallied (split_at turn.entry.st s r) turn.entry.size 1) (AddRow turn.entry.st.rows (row ((top turn.entry.st).x + s) turn.entry.st.settings.m ByAnchor)) question.old question.new }
 {
-    let t = turn.piece();
-    let one = state::split_at(turn.st, s, r);
-    let next = state::tally(one, turn.size, 1);
+    let t = turn.piece;
     let line = Row {
         start: t.x + s,
         len: turn.st.settings.m,
         how: u32::from(How::ByAnchor),
     };
-    finish(next, SheetChange::AddRow(turn.st.rows, line), question)
+    add_row(state::split_at(turn.st, s, r), turn.size, line, question)
 }
 
 // The hash v of a piece whose copy has its length: the copy is written if its hash is v.
@@ -160,26 +193,21 @@ pub fn take_hash(turn: Turn, v: u32, string: &mut [u8], question: &mut [u8]) -> 
     ensures { said_rebuilder result string.new question.new
         ≡ step_outcome turn.entry.st turn.entry.y.now turn.entry.size (hash_answer v) string.old question.old }
 {
-    let t = turn.piece();
+    let t = turn.piece;
     let k = turn.hash_key();
-    let copy = BitRange {
-        bytes: turn.y,
-        start: t.y as usize,
-        len: t.p as usize,
-    };
-    if codes::try_copy(copy, v, k, string, t.x as usize) {
+    if codes::try_copy(turn.copy(), v, k, string, t.x as usize) {
         return settle(turn, How::ByHash, question);
     }
     leave_waiting(turn, question)
 }
 
-// How a piece of p bits is repaired from a copy of q bits.
+// How the piece t is repaired from its copy.
 #[tactic(auto, unfolding(crate::specs::code::RebuilderParts::repair_how))]
-fn repair_how(p: u32, q: u32) -> How
-    requires { q ≤ max_bits }
-    ensures { result ≡ repair_how p q }
+fn repair_how(t: Piece) -> How
+    requires { t.q ≤ max_bits }
+    ensures { result ≡ repair_how t.p t.q }
 {
-    if q + 1 == p {
+    if t.q + 1 == t.p {
         return How::ByPutIn;
     }
     How::ByTakeOut
@@ -199,24 +227,19 @@ pub fn take_syndrome(
     ensures { said_rebuilder result string.new question.new
         ≡ step_outcome turn.entry.st turn.entry.y.now turn.entry.size (syndrome_answer a v) string.old question.old }
 {
-    let t = turn.piece();
+    let t = turn.piece;
     let k = turn.hash_key();
-    let copy = BitRange {
-        bytes: turn.y,
-        start: t.y as usize,
-        len: t.q as usize,
-    };
-    let how = repair_how(t.p, t.q);
+    let copy = turn.copy();
     if codes::try_repair(copy, t.p as usize, a as usize, v, k, string, t.x as usize) {
-        return settle(turn, how, question);
+        return settle(turn, repair_how(t), question);
     }
     leave_waiting(turn, question)
 }
 
-// The syndromes a of the columns, at the front of the array, and the hash v of a piece whose copy is 2 to 32 bits shorter or longer.
+// The syndromes a of the columns, at the front of the slice, and the hash v of a piece whose copy is 2 to 32 bits shorter or longer.
 pub fn take_burst(
     turn: Turn,
-    a: [u32; 32],
+    a: &[u32],
     v: u32,
     string: &mut [u8],
     question: &mut [u8],
@@ -224,19 +247,15 @@ pub fn take_burst(
     requires question_room { 8 ≤ length question.old }
     requires string_room { turn.st.n ≤ 8 * length string.old }
     requires burst_due { BurstDue turn.st }
+    requires enough { burst_of turn.st ≤ length a.now }
     ensures { said_rebuilder result string.new question.new
-        ≡ step_outcome turn.entry.st turn.entry.y.now turn.entry.size (burst_answer (take (burst_of turn.entry.st) a) v) string.old question.old }
+        ≡ step_outcome turn.entry.st turn.entry.y.now turn.entry.size (burst_answer (take (burst_of turn.entry.st) a.now) v) string.old question.old }
 {
-    let t = turn.piece();
-    let b = state::length_distance(t.p, t.q);
-    let piece = BitRange {
-        bytes: turn.y,
-        start: t.y as usize,
-        len: t.q as usize,
-    };
+    let t = turn.piece;
+    let b = state::length_distance(t);
     let k = turn.hash_key();
     let run = Run {
-        piece,
+        piece: turn.copy(),
         n: t.p as usize,
         b: b as usize,
     };
@@ -255,7 +274,7 @@ fn take_piece(turn: Turn, bits: &[u8], string: &mut [u8], question: &mut [u8]) -
     ensures { (y : List ℕ) → said_rebuilder result string.new question.new
         ≡ step_outcome turn.entry.st y turn.entry.size (bits_answer (range bits.now 0 (top turn.entry.st).p)) string.old question.old }
 {
-    let t = turn.piece();
+    let t = turn.piece;
     strings::copy_bits(
         BitRange {
             bytes: bits,
@@ -283,21 +302,16 @@ fn take_anchor(
     ensures { said_rebuilder result string.new question.new
         ≡ step_outcome turn.entry.st turn.entry.y.now turn.entry.size (bits_answer (range bits.now 0 turn.entry.st.settings.m)) string.old question.old }
 {
-    let t = turn.piece();
+    let t = turn.piece;
     let m = turn.st.settings.m as usize;
     let k = turn.st.settings.k as usize;
     let s = state::anchor_offset(turn.st.settings.m, t.p, i);
-    let copy = BitRange {
-        bytes: turn.y,
-        start: t.y as usize,
-        len: t.q as usize,
-    };
     let anchor = BitRange {
         bytes: bits,
         start: 0,
         len: m,
     };
-    match anchors::place_anchor(copy, t.p as usize, s as usize, k, anchor) {
+    match anchors::place_anchor(turn.copy(), t.p as usize, s as usize, k, anchor) {
         None => leave_waiting(turn, question),
         Some(r) => {
             let x = (t.x + s) as usize;
@@ -346,7 +360,7 @@ pub fn take_size(st: Rebuilder, n: u32, string: &mut [u8], question: &mut [u8]) 
         ≡ step_outcome st y size (size_answer n) string.old question.old }
 {
     let s = state::open_state(st, n);
-    strings::clear_bytes(string, 0, (n as usize + 7) / 8);
+    strings::clear_bytes(string, 0, strings::bytes_for(n as usize));
     finish(s, SheetChange::NoRow, question)
 }
 
@@ -387,7 +401,10 @@ pub fn take_bits(
 {
     match st.phase {
         Phase::AtWhole => take_whole(st, bits, size, string, question),
-        Phase::AtPieces => take_piece_bits(Turn { st, y, size }, bits, string, question),
+        Phase::AtPieces => {
+            let turn = Turn::of_size(st, y, size);
+            take_piece_bits(turn, bits, string, question)
+        }
         // The opening's answer is no bits, so that this is never come to.
         Phase::AtOpening => give(Ok(None), st, SheetChange::NoRow),
     }

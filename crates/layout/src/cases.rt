@@ -1,5 +1,6 @@
 // The cases of a state as numbers: they are numbers in its bytes alone. A number that is no case's is read as the last case.
-// Functions, and no From: the types and the trait are of other crates.
+// Functions, and no From: the numbers are those of a state's bytes alone, so that `ends` has none, and here type and trait are of other
+// crates.
 ghost use Rattle.std.specs.Prelude.{◌≡◌};
 ghost use Rattle.layout.specs.Layout.{phase_number, phase_of, stage_number, stage_of};
 

@@ -1,5 +1,6 @@
 // The sheet as bytes: rows of 12 bytes. The call has tested the sheet's length before a row is written, so that these functions may
-// require it.
+// require it. All three have twins in `ends`, on rows: a trait of both kinds of sheet would promise the rows alone, where these promise
+// every byte, also those behind the last row.
 ghost use Rattle.std.specs.Prelude.{◌≡◌, ◌+◌, ◌-◌, ◌*◌, ◌≤◌, length, replicate};
 ghost use Rattle.std.proofs.lemmas.List.Edits.{sets};
 ghost use Rattle.ends.specs.RebuilderCall.{no_row, rows_needed};
@@ -28,8 +29,7 @@ pub fn clear_rows(sheet: &mut [u8], from: usize, to: usize)
     }
 }
 
-// What a call of the rebuilder does to the sheet is done to its bytes. It has a twin in ends, on rows: a trait of both kinds of sheet would
-// promise the rows alone, where this one promises every byte, also those behind the last row.
+// What a call of the rebuilder does to the sheet is done to its bytes.
 pub fn apply_change(sheet: &mut [u8], change: SheetChange)
     requires { row_size * rows_needed change ≤ length sheet.old }
     ensures { sheet.new ≡ sheet_bytes_after sheet.old change }

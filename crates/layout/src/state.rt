@@ -1,5 +1,6 @@
 // The bytes of a holder's and of a rebuilder's state (docs/LAYOUT.md). An entry point tests them before it reads a state: else bytes that
-// no state has would be read as one.
+// no state has would be read as one. That a slice has room for a state stays a clause: as an array of that size it would leave the bytes
+// behind the state out of what is promised.
 ghost use Rattle.std.specs.Prelude.{◌≡◌, [], ◌++◌, ◌+◌, ◌≤◌, length, drop};
 ghost use Rattle.std.proofs.lemmas.List.Edits.{sets};
 ghost use Rattle.layout.specs.Layout.{holder_size, holder_bytes, holder_of, is_holder, piece_bytes, piece_at, pieces_at, pieces_bytes, rebuilder_size, head_bytes, rebuilder_bytes, fields_of, rebuilder_of, is_rebuilder};

@@ -24,14 +24,16 @@ pub enum StringError {
     BufferTooShort,
 }
 
-// The field with this index, counted from 0. The lines of the input are its fields at newlines, the groups of the settings line its fields at blanks.
+// The field with this index, counted from 0. The lines of the input are its fields at newlines, the groups of the settings line its fields
+// at blanks.
 fn find_field(s: &[u8], separator: u8, index: usize) -> Option<&[u8]>
     ensures { said_bytes result ≡ field_text separator index s.now }
 {
     s.split(|x| *x == separator).nth(index)
 }
 
-// A decimal number: one or more digits, the highest first, leading zeros allowed, below 2^32.
+// A decimal number: one or more digits, the highest first, leading zeros allowed, below 2^32. By hand, since parse of std takes a leading
+// plus too.
 #[tactic(auto, using(std::proofs::lemmas::Grind::common_steps, crate::specs::laws::SettingsLaws::decimal_steps))]
 fn parse_decimal(s: &[u8]) -> Option<u32>
     ensures { said_decimal result ≡ decimal_of s.now }
@@ -123,7 +125,7 @@ fn parse_bits(s: &[u8], out: &mut [u8]) -> Result<usize, StringError>
     if strings::MAX_BITS < n || !only_bits(s) {
         return Err(StringError::NotBits);
     }
-    let size = n.div_ceil(8);
+    let size = strings::bytes_for(n);
     if out.len() < size {
         return Err(StringError::BufferTooShort);
     }
@@ -143,6 +145,7 @@ pub fn read_string(input: &[u8], index: usize, out: &mut [u8]) -> Result<usize, 
     parse_bits(line, out)
 }
 
+// The lower-case digit of a number below 16. By hand, since char::from_digit gives an Option of a char, to be turned into a byte again.
 #[tactic(auto, unfolding(crate::specs::Printing::hex_digit))]
 fn hex_digit(d: u8) -> u8
     requires { d < 16 }
@@ -151,14 +154,16 @@ fn hex_digit(d: u8) -> u8
     if d < 10 { b'0' + d } else { b'a' + (d - 10) }
 }
 
+// The digit of a bit. `b'0' + u8::from(b)` is no plainer.
 fn bit_byte(b: bool) -> u8
     ensures { result ≡ bit_byte b }
 {
     if b { b'1' } else { b'0' }
 }
 
-// A number in decimal, from index `at` of the buffer on; it gives the index behind it. It is no method of a Line, since a recursion of
-// a method with a const parameter has no proof yet.
+// A number in decimal, from index `at` of the buffer on; it gives the index behind it. It is no method of a Line: tried, and a method that
+// calls itself with a const parameter got no proof. By hand: without a heap, Display of std promises its text only where a write succeeds,
+// and not that it does.
 #[tactic(auto, using(crate::specs::laws::PrintLaws::decimal_steps))]
 fn write_decimal(out: &mut [u8], at: usize, v: u32) -> usize
     requires { at + length (decimal v) ≤ length out.old }
@@ -173,7 +178,8 @@ fn write_decimal(out: &mut [u8], at: usize, v: u32) -> usize
     last + 1
 }
 
-// The bytes that are to be printed next, at most N.
+// The bytes that are to be printed next, at most N: an array and how much of it is used, since there is no heap. No equality is derived: it
+// would compare the bytes behind the used ones.
 #[derive(Debug, Drop)]
 pub struct Line<const N: usize> {
     buffer: [u8; N],
@@ -235,7 +241,7 @@ impl<const N: usize> Line<N> {
         self.size = write_decimal(&mut self.buffer, self.size, v);
     }
 
-    // The first n bits of a string as zeros and ones.
+    // The first n bits of a string as zeros and ones. String and n are no BitRange: that has at most 65,536 bits, and any n is promised.
     fn put_bits(&mut self, s: &[u8], n: usize)
         requires n_in_bounds { length self.old + n ≤ N }
         requires n_bound { n ≤ 8 * length s.now }
@@ -264,7 +270,7 @@ impl<const N: usize> Line<N> {
         self.put_byte(b' ');
     }
 
-    // The line of a message: letter Q for a question, A for an answer.
+    // The line of a message: letter Q for a question, A for an answer. A byte and no enum, since the line of every letter is promised.
     pub fn put_message_line(&mut self, letter: u8, message: &[u8])
         requires { length self.old + (3 + 2 * length message.now) ≤ N }
         ensures { self.new ≡ self.old ++ message_line letter message.now }
@@ -274,7 +280,7 @@ impl<const N: usize> Line<N> {
         self.put_byte(b'\n');
     }
 
-    // The line of a row.
+    // The line of a row. Its how is a number and no How, since the line of every number is promised, also of the 0 of a row of zeros.
     pub fn put_row_line(&mut self, start: u32, len: u32, how: u32)
         requires { length self.old + 35 ≤ N }
         ensures { self.new ≡ self.old ++ row_line start len how }
@@ -286,7 +292,8 @@ impl<const N: usize> Line<N> {
         self.put_byte(b'\n');
     }
 
-    // The last line of a finished run: the first n bits of the string, the questions after the opening, the counted bytes.
+    // The last line of a finished run: the first n bits of the string, the questions after the opening, the counted bytes. No BitRange,
+    // as in put_bits.
     pub fn put_last_line(&mut self, s: &[u8], n: usize, questions: u32, counted: u32)
         requires n_in_bounds { length self.old + (n + 25) ≤ N }
         requires n_bound { n ≤ 8 * length s.now }
@@ -299,7 +306,7 @@ impl<const N: usize> Line<N> {
         self.put_byte(b'\n');
     }
 
-    // The last line of a run in which a call was turned down.
+    // The last line of a run in which a call was turned down. A number and no Refusal, since the line of every number is promised.
     pub fn put_refusal_line(&mut self, number: u32)
         requires { length self.old + 13 ≤ N }
         ensures { self.new ≡ self.old ++ refusal_line number }

@@ -1,17 +1,16 @@
 // Answers: written by a holder, read by a rebuilder that awaits one.
 ghost use Rattle.std.specs.Prelude.{◌≡◌, ℕ, ◌^◌, ◌≤◌, length, take, ltb};
 ghost use Rattle.strings.specs.Ranges.{bits};
-ghost use Rattle.strings.specs.Results.{value};
-ghost use Rattle.messages.specs.Numbers.{number_at};
-ghost use Rattle.messages.specs.Kinds.{kind_number};
-ghost use Rattle.messages.specs.declared.Kind.TheVariants.{Burst};
-ghost use Rattle.messages.specs.Answers.{size_answer, hash_answer, syndrome_answer, bits_answer, burst_answer, answer_bytes, size_at, hash_at, syndrome_at, bits_at, within_columns, burst_at, answer_fields, read_answer, burst_syndromes, said_answer, BitsThere, BurstAnswered};
+ghost use Rattle.messages.specs.Numbers.{numbers_at};
+ghost use Rattle.messages.specs.Questions.{question_kind, question_length, question_burst};
+ghost use Rattle.messages.specs.Answers.{size_answer, hash_answer, syndrome_answer, bits_answer, burst_answer, answer_bytes, size_at, hash_at, syndrome_at, bits_at, within_columns, burst_at, answer_fields, read_answer, the_numbers, burst_syndromes, said_answer, BitsThere, BurstAnswered};
+ghost use Rattle.messages.specs.code.Reading.{said_burst};
 ghost use Rattle.messages.specs.Writing.{said_write, put_front};
 
 use crate::numbers::{number_size, put_number};
 use crate::reading::Reader;
 use crate::writing::{numbers_size, put_bits, put_numbers, write_numbers};
-use crate::{Found, Kind};
+use crate::{Found, Kind, Question};
 use strings::{BitRange, Refusal};
 
 // The answer to an opening: n.
@@ -42,7 +41,7 @@ pub fn write_syndrome(a: u32, v: u32, buf: &mut [u8]) -> Result<usize, Refusal>
 pub fn write_bits(piece: BitRange, buf: &mut [u8]) -> Result<usize, Refusal>
     ensures { said_write result buf.new ≡ put_front (answer_bytes (bits_answer (bits piece.entry))) buf.old }
 {
-    let size = 1 + (piece.len + 7) / 8;
+    let size = 1 + strings::bytes_for(piece.len);
     if buf.len() < size {
         return Err(Refusal::BufferTooShort);
     }
@@ -52,7 +51,8 @@ pub fn write_bits(piece: BitRange, buf: &mut [u8]) -> Result<usize, Refusal>
     Ok(size)
 }
 
-// The answer to a burst question: the syndromes a of its columns, and the hash.
+// The answer to a burst question: the syndromes a of its columns, and the hash. `write_numbers` would take one slice of both, which is a
+// copy of the syndromes and no plainer.
 #[tactic(auto, using(crate::specs::laws::WritingLaws::writing_laws), unfolding(crate::specs::Answers::answer_bytes))]
 pub fn write_burst(a: &[u32], v: u32, buf: &mut [u8]) -> Result<usize, Refusal>
     requires { length a.now ≤ 32 }
@@ -80,7 +80,7 @@ fn is_hash(v: u32, h: u32) -> bool
 
 // The field of an opening's answer, at which the reader stands. It is read alike whatever the length awaited.
 #[tactic(auto, using(crate::specs::code::Reading::size_read))]
-fn read_size<'a>(r: Reader<'a>) -> Result<Found, Refusal>
+fn read_size(r: Reader) -> Result<Found, Refusal>
     ensures { (len b : ℕ) → said_answer r.entry.src.now len b result ≡ size_at r.entry.src.now r.entry.at }
 {
     let n = r.last()?;
@@ -92,7 +92,7 @@ fn read_size<'a>(r: Reader<'a>) -> Result<Found, Refusal>
 
 // The field of a hash question's answer.
 #[tactic(auto, using(crate::specs::code::Reading::hash_read))]
-fn read_hash<'a>(h: u32, r: Reader<'a>) -> Result<Found, Refusal>
+fn read_hash(h: u32, r: Reader) -> Result<Found, Refusal>
     ensures { (len b : ℕ) → said_answer r.entry.src.now len b result ≡ hash_at h r.entry.src.now r.entry.at }
 {
     let v = r.last()?;
@@ -104,7 +104,7 @@ fn read_hash<'a>(h: u32, r: Reader<'a>) -> Result<Found, Refusal>
 
 // The fields of a syndrome question's answer, where the range asked for has len bits.
 #[tactic(auto, using(crate::specs::code::Reading::syndrome_read))]
-fn read_syndrome<'a>(len: u32, h: u32, mut r: Reader<'a>) -> Result<Found, Refusal>
+fn read_syndrome(len: u32, h: u32, mut r: Reader) -> Result<Found, Refusal>
     ensures { (b : ℕ) → said_answer r.entry.src.now len b result ≡ syndrome_at len h r.entry.src.now r.entry.at }
 {
     let a = r.next()?;
@@ -126,7 +126,7 @@ fn read_bits(len: u32, s: &[u8], at: usize) -> Result<Found, Refusal>
     ensures bits_there { BitsThere s.now len result }
 {
     let bits = len as usize;
-    let bytes = (bits + 7) / 8;
+    let bytes = strings::bytes_for(bits);
     let end = s.len();
     let rest = end - at;
     if rest < bytes {
@@ -155,11 +155,11 @@ fn are_within_columns(a: &[u32], len: u32) -> bool
     true
 }
 
-// The fields of a burst's answer, behind the kind: a syndrome for each place of the list, which is filled, then the hash.
-fn read_columns<'a>(len: u32, h: u32, mut r: Reader<'a>, list: &mut [u32]) -> Result<Found, Refusal>
-    requires few { length list.old ≤ 32 }
-    requires kind { number_at r.src.now 0 ≡ value (kind_number Burst, r.at) }
-    ensures { let b = length list.old in said_answer r.entry.src.now len b result ≡ burst_at len b h r.entry.src.now r.entry.at }
+// The fields of a burst's answer: a syndrome for each place of the list, which is filled, then the hash, which is given.
+#[tactic(auto, using(crate::specs::code::Reading::columns_read))]
+fn read_columns(len: u32, h: u32, mut r: Reader, list: &mut [u32]) -> Result<u32, Refusal>
+    requires { length list.old ≤ 32 }
+    ensures { said_burst result list.new ≡ burst_at len (length list.old) h r.entry.src.now r.entry.at }
 {
     r.fill(list)?;
     let v = r.last()?;
@@ -169,21 +169,20 @@ fn read_columns<'a>(len: u32, h: u32, mut r: Reader<'a>, list: &mut [u32]) -> Re
     if !is_hash(v, h) {
         return Err(Refusal::OutOfRange);
     }
-    Ok(Found::IsBurst(v))
+    Ok(v)
 }
 
-// The fields of a burst's answer in b columns.
-fn read_burst<'a>(len: u32, b: u32, h: u32, r: Reader<'a>) -> Result<Found, Refusal>
-    requires few { b ≤ 32 }
-    requires kind { number_at r.src.now 0 ≡ value (kind_number Burst, r.at) }
-    ensures { said_answer r.entry.src.now len b result ≡ burst_at len b h r.entry.src.now r.entry.at }
+// The fields of a burst's answer in b columns: the hash behind the syndromes that stand where the reader stands.
+fn read_burst(len: u32, b: u32, h: u32, r: Reader) -> Result<u32, Refusal>
+    requires { b ≤ 32 }
+    ensures { said_burst result (the_numbers (numbers_at b r.entry.src.now r.entry.at)) ≡ burst_at len b h r.entry.src.now r.entry.at }
 {
     let mut numbers = [0u32; 32];
     read_columns(len, h, r, &mut numbers[..b as usize])
 }
 
-// The syndromes of a message that was read to a burst's answer fill a list. That they are read again, in place of being kept, leaves no array in
-// what `read_answer` gives.
+// The syndromes of a message that was read to a burst's answer fill a list. That they are read again, in place of being kept, leaves no
+// array in what `read_answer` gives.
 fn fill_syndromes(s: &[u8], list: &mut [u32])
     requires { BurstAnswered (length list.old) s.now }
     ensures { list.new ≡ burst_syndromes (length list.old) s.now }
@@ -204,34 +203,40 @@ pub fn burst_syndromes(s: &[u8], b: u32) -> [u32; 32]
     numbers
 }
 
-// The fields of an answer of the awaited kind, behind that kind.
-#[tactic(auto, unfolding(crate::specs::Answers::answer_fields))]
-fn read_fields<'a>(kind: Kind, len: u32, b: u32, h: u32, r: Reader<'a>) -> Result<Found, Refusal>
-    requires few { b ≤ 32 }
-    requires kind { number_at r.src.now 0 ≡ value (kind_number kind, r.at) }
-    ensures result_value { said_answer r.entry.src.now len b result ≡ answer_fields kind len b h r.entry.src.now r.entry.at }
-    ensures bits_there { BitsThere r.entry.src.now len result }
-{
-    match kind {
-        Kind::Open => read_size(r),
-        Kind::Hash => read_hash(h, r),
-        Kind::Syndrome => read_syndrome(len, h, r),
-        Kind::Bits => read_bits(len, r.src, r.at),
-        Kind::Burst => read_burst(len, b, h, r),
+impl Question {
+    // The kind of the question, which is that of its answer.
+    fn kind(self) -> Kind
+        ensures { result ≡ question_kind self }
+    {
+        match self {
+            Question::AskOpen(_, _) => Kind::Open,
+            Question::AskHash(_, _) => Kind::Hash,
+            Question::AskSyndrome(_, _) => Kind::Syndrome,
+            Question::AskBits(_, _) => Kind::Bits,
+            Question::AskBurst(_, _, _) => Kind::Burst,
+        }
     }
 }
 
-// The answer of the awaited kind to a question of len bits, of a burst in b columns, under h. Bits are handed on as the position at which they
-// begin, and `burst_syndromes` gives the syndromes of a burst.
-pub fn read_answer(kind: Kind, len: u32, b: u32, h: u32, s: &[u8]) -> Result<Found, Refusal>
-    requires { b ≤ 32 }
-    ensures result_value { said_answer s.now len b result ≡ read_answer kind len b h s.now }
-    ensures bits_there { BitsThere s.now len result }
+// The answer to the question q under h: one of another kind is turned down. Bits are handed on as the position at which they begin, since a
+// slice would need the clause that it is the message from there on, which the position says, and would give each `Found` a lifetime;
+// `burst_syndromes` gives the syndromes of a burst.
+pub fn read_answer(q: Question, h: u32, s: &[u8]) -> Result<Found, Refusal>
+    requires { question_burst q ≤ 32 }
+    ensures result_value { said_answer s.now (question_length q) (question_burst q) result
+        ≡ read_answer (question_kind q) (question_length q) (question_burst q) h s.now }
+    ensures bits_there { BitsThere s.now (question_length q) result }
 {
     let mut r = Reader::new(s, 0);
     let v = r.next()?;
-    if v != u32::from(kind) {
+    if v != u32::from(q.kind()) {
         return Err(Refusal::BadKind);
     }
-    read_fields(kind, len, b, h, r)
+    match q {
+        Question::AskOpen(_, _) => read_size(r),
+        Question::AskHash(_, _) => read_hash(h, r),
+        Question::AskSyndrome(_, len) => read_syndrome(len, h, r),
+        Question::AskBits(_, len) => read_bits(len, s, r.at),
+        Question::AskBurst(_, len, b) => Ok(Found::IsBurst(read_burst(len, b, h, r)?)),
+    }
 }

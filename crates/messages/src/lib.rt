@@ -1,7 +1,7 @@
 // Messages: the third layer. Numbers, questions and answers as bytes.
 // Refusals 4 to 7 are all met here. Of 8, what a message decides together with n, h and the length awaited is tested here, behind 7:
-// version, h, key, n above MAX_BITS, a range empty or past n, a syndrome above the length (of its column), a hash of 2^h or more, spare bits
-// set. 10, the number B of a burst question outside 2 to 32, is tested between 7 and 8.
+// version, h, key, n above MAX_BITS, a range empty or past n, a syndrome above the length (of its column), a hash of 2^h or more, spare
+// bits set. 10, the number B of a burst question outside 2 to 32, is tested between 7 and 8.
 #![tactic(auto)]
 
 mod answers;
@@ -37,8 +37,8 @@ pub enum Question {
     AskBurst(u32, u32, u32),
 }
 
-// An answer as it was read: n; the hash; syndrome and hash; the index of the byte at which the bits begin; of a burst's answer the hash, whose
-// syndromes `burst_syndromes` gives.
+// An answer as it was read: n; the hash; syndrome and hash; the index of the byte at which the bits begin; of a burst's answer the hash,
+// whose syndromes `burst_syndromes` gives.
 #[derive(Clone, Copy, Debug, PartialEq, Eq)]
 pub enum Found {
     IsSize(u32),

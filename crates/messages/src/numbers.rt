@@ -1,5 +1,5 @@
 // Numbers of messages: written and read as groups of seven bits, the lowest first.
-ghost use Rattle.std.specs.Prelude.{◌≡◌, ◌+◌, min, ◌≤◌, ◌<◌, length};
+ghost use Rattle.std.specs.Prelude.{◌≡◌, ◌+◌, ◌≤◌, ◌<◌, length};
 ghost use Rattle.std.proofs.lemmas.List.Edits.{sets};
 ghost use Rattle.strings.specs.Results.{said};
 ghost use Rattle.messages.specs.Numbers.{number, next_byte, number_at};
@@ -12,46 +12,31 @@ fn read_fifth(s: &[u8], i: usize, v: u32) -> Result<(u32, usize), Refusal>
     requires { v < 268435456 }
     ensures { said result ≡ next_byte 0 s.now i 268435456 v }
 {
-    if s.len() <= i {
+    let Some(&last) = s.get(i) else {
         return Err(Refusal::Truncated);
-    }
-    let last = s[i];
-    if last == 0 {
-        return Err(Refusal::BadNumber);
-    }
-    if 15 < last {
+    };
+    if last == 0 || 15 < last {
         return Err(Refusal::BadNumber);
     }
     Ok((v + 268435456 * wide(last), i + 1))
 }
 
-// Where the first four bytes of a number at position `at` end: behind the fourth, or with the message of `size` bytes.
-fn fourth_end(size: usize, at: usize) -> usize
-    requires { at < size }
-    ensures { result ≡ min (at + 4) size }
-{
-    if size - at < 4 {
-        return size;
-    }
-    at + 4
-}
-
-// The number at position `at`, byte by byte: v so far, and the next byte, at index i, counts w-fold. The loop stops behind the fourth byte or
-// where the message ends: a fifth is next, or none is there, and `read_fifth` finds which. The compiler does
-// not unroll a loop whose number of turns it can't know, so that this function stays small enough to be inlined.
+// The number at position `at`, byte by byte: v so far, and the next byte, at index i, counts w-fold. The loop stops behind the fourth byte
+// or where the message ends: a fifth is next, or none is there, and `read_fifth` finds which. The compiler does not unroll a loop whose
+// number of turns it can't know, so that this function stays small enough to be inlined.
 pub fn read_number(s: &[u8], at: usize) -> Result<(u32, usize), Refusal>
     ensures { said result ≡ number_at s.now at }
 {
-    if s.len() <= at {
+    let Some(&first) = s.get(at) else {
         return Err(Refusal::Truncated);
-    }
-    let first = s[at];
+    };
     if first < 128 {
         return Ok((wide(first), at + 1));
     }
-    let end = fourth_end(s.len(), at);
+    let end = (at + 4).min(s.len());
     let mut v = wide(first - 128);
     let mut w: u32 = 128;
+    // An iterator over the bytes is no plainer: the answer is the position behind the last one.
     for i in at + 1..end {
         let b = s[i];
         if b == 0 {
@@ -60,8 +45,8 @@ pub fn read_number(s: &[u8], at: usize) -> Result<(u32, usize), Refusal>
         if b < 128 {
             return Ok((v + w * wide(b), i + 1));
         }
-        v = v + w * wide(b - 128);
-        w = w * 128;
+        v += w * wide(b - 128);
+        w *= 128;
     }
     read_fifth(s, end, v)
 }
@@ -71,23 +56,17 @@ pub fn read_number(s: &[u8], at: usize) -> Result<(u32, usize), Refusal>
 pub fn number_size(v: u32) -> usize
     ensures { result ≡ length (number v) }
 {
-    if v < 128 {
-        return 1;
+    match v {
+        0..128 => 1,
+        128..16384 => 2,
+        16384..2097152 => 3,
+        2097152..268435456 => 4,
+        _ => 5,
     }
-    if v < 16384 {
-        return 2;
-    }
-    if v < 2097152 {
-        return 3;
-    }
-    if v < 268435456 {
-        return 4;
-    }
-    5
 }
 
-// A number is written from index `at` on; the answer is the index behind it. The length that it requires was tested for the whole message, so
-// that a buffer that is too short is left alone.
+// A number is written from index `at` on; the answer is the index behind it. The length that it requires was tested for the whole message,
+// so that a buffer that is too short is left alone.
 pub fn put_number(buf: &mut [u8], at: usize, v: u32) -> usize
     requires { at + length (number v) ≤ length buf.old }
     ensures { (result ≡ at + length (number v)) × (buf.new ≡ sets buf.old at (number v)) }
@@ -97,7 +76,7 @@ pub fn put_number(buf: &mut [u8], at: usize, v: u32) -> usize
     // A `for` is no plainer: only what is left of v says whether a byte is the last.
     while 128 <= w {
         buf[i] = (w % 128 + 128) as u8;
-        w = w / 128;
+        w /= 128;
         i += 1;
     }
     buf[i] = w as u8;

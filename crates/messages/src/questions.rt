@@ -1,8 +1,8 @@
 // Questions: written by a rebuilder, read by a holder.
-ghost use Rattle.std.specs.Prelude.{◌≡◌};
+ghost use Rattle.std.specs.Prelude.{◌≡◌, ℕ};
 ghost use Rattle.strings.specs.Results.{said};
-ghost use Rattle.messages.specs.Questions.{question_bytes, asking, opening_at, range_question, burst_range_at, fields_at};
-ghost use Rattle.messages.specs.code.Reading.{opening_of, range_of, burst_of};
+ghost use Rattle.messages.specs.Questions.{question_bytes, opening_at, range_question, burst_range_at, fields_at};
+ghost use Rattle.messages.specs.code.Reading.{opening_of, Asks, range_of, burst_of};
 ghost use Rattle.messages.specs.Writing.{said_write, put_front};
 
 use crate::reading::Reader;
@@ -10,30 +10,11 @@ use crate::writing::write_numbers;
 use crate::{Kind, Question};
 use strings::Refusal;
 
-// The question of a kind with its two fields. A burst has three, and is not asked for here.
-fn ask(kind: Kind, a: u32, b: u32) -> Question
-    ensures { result ≡ asking kind a b }
-{
-    match kind {
-        Kind::Open => Question::AskOpen(a, b),
-        Kind::Hash => Question::AskHash(a, b),
-        Kind::Syndrome => Question::AskSyndrome(a, b),
-        Kind::Bits => Question::AskBits(a, b),
-        Kind::Burst => Question::AskBurst(a, b, 0),
-    }
-}
-
 // An opening of these fields.
 fn opening_of(version: u32, h: u32, key: u32) -> Result<Question, Refusal>
     ensures { said result ≡ opening_of version h key }
 {
-    if version != 1 {
-        return Err(Refusal::OutOfRange);
-    }
-    if !strings::is_hash_width(h) {
-        return Err(Refusal::OutOfRange);
-    }
-    if !strings::is_key(key) {
+    if version != 1 || !strings::is_hash_width(h) || !strings::is_key(key) {
         return Err(Refusal::OutOfRange);
     }
     Ok(Question::AskOpen(h, key))
@@ -41,7 +22,7 @@ fn opening_of(version: u32, h: u32, key: u32) -> Result<Question, Refusal>
 
 // The fields of an opening, at which the reader stands: version, h, key.
 #[tactic(auto, using(crate::specs::code::Reading::opening_read))]
-fn read_opening<'a>(mut r: Reader<'a>) -> Result<Question, Refusal>
+fn read_opening(mut r: Reader) -> Result<Question, Refusal>
     ensures { said result ≡ opening_at r.entry.src.now r.entry.at }
 {
     let version = r.next()?;
@@ -50,30 +31,35 @@ fn read_opening<'a>(mut r: Reader<'a>) -> Result<Question, Refusal>
     opening_of(version, h, key)
 }
 
-// A question for a range of n bits.
-fn range_of(kind: Kind, n: u32, start: u32, len: u32) -> Result<Question, Refusal>
-    ensures { said result ≡ range_of (asking kind) n start len }
+// A question for a range of n bits, which `ask` makes of start and length.
+fn range_of<F: FnOnce(u32, u32) -> Question>(
+    ask: F,
+    n: u32,
+    start: u32,
+    len: u32,
+) -> Result<Question, Refusal>
+    requires { F.pre ask start len }
+    ensures { (asked : ℕ → ℕ → Question) → Asks (F.post ask) asked → said result ≡ range_of asked n start len }
 {
-    if len < 1 {
+    if len < 1 || !strings::ends_by(start as usize, len as usize, n as usize) {
         return Err(Refusal::OutOfRange);
     }
-    if n < len {
-        return Err(Refusal::OutOfRange);
-    }
-    if n - len < start {
-        return Err(Refusal::OutOfRange);
-    }
-    Ok(ask(kind, start, len))
+    Ok(ask(start, len))
 }
 
-// The fields of a question for a range of n bits: start, length.
+// The fields of a question for a range of n bits: start, length, of which `ask` makes it.
 #[tactic(auto, using(crate::specs::code::Reading::range_read))]
-fn read_range<'a>(kind: Kind, mut r: Reader<'a>, n: u32) -> Result<Question, Refusal>
-    ensures { said result ≡ range_question (asking kind) r.entry.src.now r.entry.at n }
+fn read_range<F: FnOnce(u32, u32) -> Question>(
+    ask: F,
+    mut r: Reader,
+    n: u32,
+) -> Result<Question, Refusal>
+    requires { F.IsAlwaysCallable ask }
+    ensures { (asked : ℕ → ℕ → Question) → Asks (F.post ask) asked → said result ≡ range_question asked r.entry.src.now r.entry.at n }
 {
     let start = r.next()?;
     let len = r.last()?;
-    range_of(kind, n, start, len)
+    range_of(ask, n, start, len)
 }
 
 // A burst question to a holder of n bits.
@@ -83,21 +69,13 @@ fn burst_of(n: u32, start: u32, len: u32, b: u32) -> Result<Question, Refusal>
     if !codes::is_column_count(b) {
         return Err(Refusal::BadBurst);
     }
-    if len < 1 {
-        return Err(Refusal::OutOfRange);
-    }
-    if n < start {
-        return Err(Refusal::OutOfRange);
-    }
-    if n - start < len {
-        return Err(Refusal::OutOfRange);
-    }
-    Ok(Question::AskBurst(start, len, b))
+    let ask_burst = |start, len| Question::AskBurst(start, len, b);
+    range_of(ask_burst, n, start, len)
 }
 
 // The fields of a burst question: start, length, B.
 #[tactic(auto, using(crate::specs::code::Reading::burst_read))]
-fn read_burst<'a>(mut r: Reader<'a>, n: u32) -> Result<Question, Refusal>
+fn read_burst(mut r: Reader, n: u32) -> Result<Question, Refusal>
     ensures { said result ≡ burst_range_at r.entry.src.now r.entry.at n }
 {
     let start = r.next()?;
@@ -114,9 +92,9 @@ pub fn read_fields(kind: Kind, s: &[u8], at: usize, n: u32) -> Result<Question, 
     let r = Reader::new(s, at);
     match kind {
         Kind::Open => read_opening(r),
-        Kind::Hash => read_range(kind, r, n),
-        Kind::Syndrome => read_range(kind, r, n),
-        Kind::Bits => read_range(kind, r, n),
+        Kind::Hash => read_range(Question::AskHash, r, n),
+        Kind::Syndrome => read_range(Question::AskSyndrome, r, n),
+        Kind::Bits => read_range(Question::AskBits, r, n),
         Kind::Burst => read_burst(r, n),
     }
 }

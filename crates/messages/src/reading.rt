@@ -1,5 +1,5 @@
-// The reader of 01, "Both ends read through one reader that holds a message and how far it has got". Questions and answers are read through it,
-// number by number.
+// The reader of 01, "Both ends read through one reader that holds a message and how far it has got". Questions and answers are read through
+// it, number by number.
 ghost use Rattle.std.specs.Prelude.{◌≡◌, length, OnErr};
 ghost use Rattle.strings.specs.Results.{said};
 ghost use Rattle.messages.specs.Numbers.{number_at, numbers_at};
@@ -9,7 +9,7 @@ use crate::numbers::read_number;
 use strings::Refusal;
 
 // A reader: `src` is the message, `at` is how far it has got, as the index of the first byte that is not read yet.
-#[derive(Clone, Copy)]
+#[derive(Clone, Copy, Debug, PartialEq, Eq)]
 pub struct Reader<'a> {
     pub src: &'a [u8],
     pub at: usize,
@@ -17,10 +17,10 @@ pub struct Reader<'a> {
 
 impl<'a> Reader<'a> {
     // A reader of `src` that has got as far as `at`.
-    pub fn new(src: &'a [u8], at: usize) -> Reader<'a>
+    pub fn new(src: &'a [u8], at: usize) -> Self
         ensures { (result.src ≡ src.entry) × (result.at ≡ at) }
     {
-        Reader { src, at }
+        Self { src, at }
     }
 
     // The number at which the reader stands; it moves on behind it. Where there is none it stays.

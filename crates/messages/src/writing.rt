@@ -16,7 +16,7 @@ fn put_bits_first(piece: BitRange, buf: &mut [u8])
     requires { bytes_for piece.len ≤ length buf.old }
     ensures { buf.new ≡ sets buf.old 0 (pack (bits piece.entry)) }
 {
-    strings::clear_bytes(buf, 0, (piece.len + 7) / 8);
+    strings::clear_bytes(buf, 0, strings::bytes_for(piece.len));
     strings::copy_bits(piece, buf, 0);
 }
 
@@ -25,26 +25,20 @@ pub fn put_bits(piece: BitRange, buf: &mut [u8], at: usize)
     requires { at + bytes_for piece.len ≤ length buf.old }
     ensures { buf.new ≡ sets buf.old at (pack (bits piece.entry)) }
 {
-    let end = buf.len();
-    put_bits_first(piece, &mut buf[at..end]);
+    put_bits_first(piece, &mut buf[at..]);
 }
 
-// How many bytes numbers take. At most 32 are asked for here and by the callers: the bound only keeps a sum in range, and a slice with a fact
-// beside it is no plainer.
-#[tactic(auto, using(crate::specs::code::Reading::size_turns))]
+// How many bytes numbers take. At most 32 are asked for here, by the callers and where numbers are read: the bound only keeps sums and the
+// lengths of columns in range, and a slice with a fact beside it is no plainer.
 pub fn numbers_size(numbers: &[u32]) -> usize
     requires { length numbers.now ≤ 32 }
     ensures { result ≡ length (all_numbers numbers.now) }
 {
-    let mut size: usize = 0;
-    for v in numbers {
-        size += number_size(*v);
-    }
-    size
+    numbers.iter().copied().map(number_size).sum()
 }
 
-// Numbers are written from index `at` on, one behind the other; the answer is the index behind them. The length that it requires was tested for
-// the whole message.
+// Numbers are written from index `at` on, one behind the other; the answer is the index behind them. The length that it requires was tested
+// for the whole message.
 #[tactic(auto, using(crate::specs::code::Reading::put_turns))]
 pub fn put_numbers(buf: &mut [u8], at: usize, numbers: &[u32]) -> usize
     requires { at + length (all_numbers numbers.now) ≤ length buf.old }

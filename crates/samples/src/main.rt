@@ -4,9 +4,10 @@
 // five lines, which stand there as text: the house settings, the calls that are turned down and one repair that is done.
 #![tactic(auto)]
 
-ghost use Rattle.std.specs.Prelude.{◌≤◌, ◌<◌, IfOk};
+ghost use Rattle.std.specs.Prelude.{◌≤◌, IfOk};
 
 use ends::{Holder, Rebuilder};
+use std::fmt::Display;
 use std::io;
 use strings::{Refusal, Settings};
 
@@ -14,32 +15,14 @@ fn print(rt: &impl Print, text: &[u8]) -> io::Result<()> {
     rt.write_all(text)
 }
 
-fn print_number(rt: &impl Print, v: u64) -> io::Result<()> {
+fn print_number(rt: &impl Print, v: impl Display + Drop) -> io::Result<()> {
     print(rt, b" ")?;
     rt.print(v)
 }
 
 fn print_refusal(rt: &impl Print, e: Refusal) -> io::Result<()> {
     print(rt, b" R")?;
-    print_number(rt, u64::from(u32::from(e)))
-}
-
-// The first n bits of b.
-fn print_bits(rt: &impl Print, b: u8, n: u32) -> io::Result<()>
-    requires { n ≤ 8 }
-{
-    print(rt, b" ")?;
-    if n == 0 {
-        print(rt, b"empty")?;
-    }
-    for i in 0..n {
-        if (b >> (7 - i)) % 2 == 1 {
-            print(rt, b"1")?;
-        } else {
-            print(rt, b"0")?;
-        }
-    }
-    Ok(())
+    print_number(rt, u32::from(e))
 }
 
 // The rows 1 to `count` of a key: the outputs of xorshift from that seed.
@@ -47,116 +30,132 @@ fn print_rows(rt: &impl Print, key: u32, count: u32) -> io::Result<()> {
     let mut v = key;
     for _ in 0..count {
         v = codes::xorshift(v);
-        print_number(rt, v as u64)?;
+        print_number(rt, v)?;
     }
     print(rt, b"\n")
 }
 
 fn print_answer(rt: &impl Print, r: Result<u32, Refusal>) -> io::Result<()> {
     match r {
-        Ok(v) => print_number(rt, v as u64),
+        Ok(v) => print_number(rt, v),
         Err(e) => print_refusal(rt, e),
     }
 }
 
-// The repair of the first `bits` bits of b to n bits of syndrome a; whether there is one.
-fn print_repair(rt: &impl Print, b: u8, bits: u32, n: u32, a: u32) -> io::Result<bool>
-    requires bits_bound { bits ≤ 8 }
-    requires n_bound { n ≤ 8 }
-{
-    let s = [b; 1];
-    let mut out = [0u8; 1];
-    let size = bits.div_ceil(8) as usize;
-    let r = codes::repair(&s[0..size], bits as usize, n as usize, a as usize, &mut out);
-    match r {
-        Ok(true) => {
-            print_bits(rt, out[0], n)?;
-            Ok(true)
+// A string of at most 8 bits: one byte and a bit count, since there is no heap, and a range would borrow what is made here.
+#[derive(Clone, Copy, Debug, PartialEq, Eq)]
+struct Sample {
+    buffer: [u8; 1],
+    bits: usize,
+    ghost few: { bits ≤ 8 },
+}
+
+impl Sample {
+    // The bytes that its bits fill.
+    fn bytes(&self) -> &[u8] {
+        &self.buffer[..strings::bytes_for(self.bits)]
+    }
+
+    // Its bits as zeros and ones.
+    fn print(&self, rt: &impl Print) -> io::Result<()> {
+        print(rt, b" ")?;
+        if self.bits == 0 {
+            print(rt, b"empty")?;
         }
-        Ok(false) => {
-            print(rt, b" none")?;
-            Ok(false)
+        for i in 0..self.bits {
+            if strings::get_bit(&self.buffer, i) {
+                print(rt, b"1")?;
+            } else {
+                print(rt, b"0")?;
+            }
         }
-        Err(e) => {
-            print_refusal(rt, e)?;
-            Ok(false)
+        Ok(())
+    }
+
+    // The repair to n bits of syndrome a; whether there is one.
+    fn print_repair(&self, rt: &impl Print, n: usize, a: usize) -> io::Result<bool>
+        requires { n ≤ 8 }
+    {
+        let mut buffer = [0u8; 1];
+        match codes::repair(self.bytes(), self.bits, n, a, &mut buffer) {
+            Ok(true) => {
+                Sample { buffer, bits: n }.print(rt)?;
+                Ok(true)
+            }
+            Ok(false) => {
+                print(rt, b" none")?;
+                Ok(false)
+            }
+            Err(e) => {
+                print_refusal(rt, e)?;
+                Ok(false)
+            }
         }
+    }
+
+    // Every repair to n bits; how many there are.
+    fn print_repairs(&self, rt: &impl Print, n: usize) -> io::Result<u32>
+        requires { n ≤ 8 }
+        ensures { IfOk result (λ found. found ≤ 9) }
+    {
+        let mut found: u32 = 0;
+        for a in 0..=n {
+            if self.print_repair(rt, n, a)? {
+                found += 1;
+            }
+        }
+        Ok(found)
+    }
+
+    // Every put-in, which have at most 8 bits; how many there are.
+    fn print_put_ins(&self, rt: &impl Print) -> io::Result<u32>
+        ensures { IfOk result (λ found. found ≤ 9) }
+    {
+        if self.bits == 8 {
+            return Ok(0);
+        }
+        self.print_repairs(rt, self.bits + 1)
+    }
+
+    // The string, its syndrome, its put-ins and its take-outs, each for the syndromes in order; how many put-ins there are.
+    fn print_line(&self, rt: &impl Print) -> io::Result<u32>
+        ensures { IfOk result (λ found. found ≤ 9) }
+    {
+        self.print(rt)?;
+        print(rt, b":")?;
+        print_answer(rt, codes::syndrome(self.bytes(), self.bits))?;
+        print(rt, b";")?;
+        let found = self.print_put_ins(rt)?;
+        print(rt, b";")?;
+        if 0 < self.bits {
+            self.print_repairs(rt, self.bits - 1)?;
+        }
+        print(rt, b"\n")?;
+        Ok(found)
     }
 }
 
-// Every repair of the first `bits` bits of b to n bits; how many there are.
-fn print_repairs(rt: &impl Print, b: u8, bits: u32, n: u32) -> io::Result<u32>
-    requires bits_bound { bits ≤ 8 }
-    requires n_bound { n ≤ 8 }
-    ensures { IfOk result (λ found. found ≤ 9) }
-{
-    let mut found: u32 = 0;
-    for a in 0..=n {
-        if print_repair(rt, b, bits, n, a)? {
-            found += 1;
-        }
-    }
-    Ok(found)
-}
-
-// Every put-in, which have at most 8 bits; how many there are.
-fn print_put_ins(rt: &impl Print, b: u8, bits: u32) -> io::Result<u32>
+// Every string of that many bits: the bytes whose other bits are zeros. How many put-ins there are.
+fn print_strings(rt: &impl Print, bits: usize) -> io::Result<u32>
     requires { bits ≤ 8 }
-    ensures { IfOk result (λ found. found ≤ 9) }
-{
-    if bits == 8 {
-        return Ok(0);
-    }
-    print_repairs(rt, b, bits, bits + 1)
-}
-
-// A string, its syndrome, its put-ins and its take-outs, each for the syndromes in order; how many put-ins there are.
-fn print_string(rt: &impl Print, b: u8, bits: u32) -> io::Result<u32>
-    requires { bits ≤ 8 }
-    ensures { IfOk result (λ found. found ≤ 9) }
-{
-    let s = [b; 1];
-    let size = bits.div_ceil(8) as usize;
-    print_bits(rt, b, bits)?;
-    print(rt, b":")?;
-    print_answer(rt, codes::syndrome(&s[0..size], bits as usize))?;
-    print(rt, b";")?;
-    let found = print_put_ins(rt, b, bits)?;
-    print(rt, b";")?;
-    if 0 < bits {
-        print_repairs(rt, b, bits, bits - 1)?;
-    }
-    print(rt, b"\n")?;
-    Ok(found)
-}
-
-// Every string of that many bits: as bytes, the multiples of `gap`. How many put-ins there are.
-fn print_strings(rt: &impl Print, bits: u32, gap: u32) -> io::Result<u32>
-    requires bits_bound { bits ≤ 8 }
-    requires gap_nonzero { 0 < gap }
     ensures { IfOk result (λ found. found ≤ 2304) }
 {
     let mut found: u32 = 0;
-    for v in 0..256 {
-        if v % gap == 0 {
-            found += print_string(rt, v as u8, bits)?;
+    for v in 0..=255u8 {
+        if 8 <= bits + v.trailing_zeros() as usize {
+            found += Sample { buffer: [v], bits }.print_line(rt)?;
         }
     }
     Ok(found)
 }
 
 fn print_codes(rt: &impl Print) -> io::Result<()> {
-    let short = print_strings(rt, 0, 256)?
-        + print_strings(rt, 1, 128)?
-        + print_strings(rt, 2, 64)?
-        + print_strings(rt, 3, 32)?;
-    let long = print_strings(rt, 4, 16)?
-        + print_strings(rt, 5, 8)?
-        + print_strings(rt, 6, 4)?
-        + print_strings(rt, 7, 2)?;
-    print_strings(rt, 8, 1)?;
+    let mut found: u32 = 0;
+    for bits in 0..=8 {
+        found += print_strings(rt, bits)?;
+    }
     print(rt, b"put-ins:")?;
-    print_number(rt, (short + long) as u64)?;
+    print_number(rt, found)?;
     print(rt, b"\n")
 }
 
@@ -172,11 +171,23 @@ fn print_hashes(rt: &impl Print) -> io::Result<()> {
     print(rt, b"\n")
 }
 
+// A string as a caller hands it in: bytes and a bit count, which a call tests. `demo` has the same: a crate for this alone is no plainer.
+#[derive(Clone, Copy, Debug, PartialEq, Eq)]
+struct Text<'a> {
+    bytes: &'a [u8],
+    bits: usize,
+}
+
+impl<'a> Text<'a> {
+    fn new(bytes: &'a [u8], bits: usize) -> Self {
+        Text { bytes, bits }
+    }
+}
+
 // A repair into a buffer of one byte.
-fn print_call(rt: &impl Print, s: &[u8], bits: usize, n: usize, a: usize) -> io::Result<()> {
+fn print_call(rt: &impl Print, s: Text, n: usize, a: usize) -> io::Result<()> {
     let mut out = [0u8; 1];
-    let r = codes::repair(s, bits, n, a, &mut out);
-    match r {
+    match codes::repair(s.bytes, s.bits, n, a, &mut out) {
         Ok(true) => print(rt, b" done"),
         Ok(false) => print(rt, b" none"),
         Err(e) => print_refusal(rt, e),
@@ -187,11 +198,11 @@ fn print_call(rt: &impl Print, s: &[u8], bits: usize, n: usize, a: usize) -> io:
 fn print_house(rt: &impl Print) -> io::Result<()> {
     let house = Settings::house();
     print(rt, b"house settings:")?;
-    print_number(rt, house.m as u64)?;
-    print_number(rt, house.h as u64)?;
-    print_number(rt, house.k as u64)?;
-    print_number(rt, house.key as u64)?;
-    print_number(rt, house.ceiling as u64)?;
+    print_number(rt, house.m)?;
+    print_number(rt, house.h)?;
+    print_number(rt, house.k)?;
+    print_number(rt, house.key)?;
+    print_number(rt, house.ceiling)?;
     print(rt, b"\n")
 }
 
@@ -213,45 +224,35 @@ fn print_refusals(rt: &impl Print) -> io::Result<()> {
         rt,
         b"\nrepair of 1011 to 4 bits, to 6, to 5 with syndrome 5, with syndrome 6:",
     )?;
-    print_call(rt, b"\xb0", 4, 4, 0)?;
-    print_call(rt, b"\xb0", 4, 6, 0)?;
-    print_call(rt, b"\xb0", 4, 5, 5)?;
-    print_call(rt, b"\xb0", 4, 5, 6)?;
+    print_call(rt, Text::new(b"\xb0", 4), 4, 0)?;
+    print_call(rt, Text::new(b"\xb0", 4), 6, 0)?;
+    print_call(rt, Text::new(b"\xb0", 4), 5, 5)?;
+    print_call(rt, Text::new(b"\xb0", 4), 5, 6)?;
     print(
         rt,
         b"\nrepair with a spare bit, to 65537 bits, to 9 bits in one byte:",
     )?;
-    print_call(rt, b"\xb1", 4, 6, 0)?;
-    print_call(rt, &zeros, 65536, 65537, 0)?;
-    print_call(rt, b"\xb0", 8, 9, 0)?;
+    print_call(rt, Text::new(b"\xb1", 4), 6, 0)?;
+    print_call(rt, Text::new(&zeros, 65536), 65537, 0)?;
+    print_call(rt, Text::new(b"\xb0", 8), 9, 0)?;
     print(rt, b"\n")
-}
-
-fn print_byte(rt: &impl Print, v: u8) -> io::Result<()> {
-    print_number(rt, v as u64)
 }
 
 // The bytes of a message.
 fn print_bytes(rt: &impl Print, message: &[u8]) -> io::Result<()> {
-    for x in message {
-        print_byte(rt, *x)?;
+    for &x in message {
+        print_number(rt, x)?;
     }
     Ok(())
 }
 
 // The rebuilder's next question after a message, and its state.
-fn tell(
-    rt: &impl Print,
-    st: Rebuilder,
-    y: &[u8],
-    bits: usize,
-    message: &[u8],
-) -> io::Result<Rebuilder> {
+fn tell(rt: &impl Print, st: Rebuilder, y: Text, message: &[u8]) -> io::Result<Rebuilder> {
     let mut string = [0u8; 8];
     let mut question = [0u8; 8];
-    let out = ends::rebuilder_call(st, y, bits, message, 17, &mut string, &mut question);
+    let out = ends::rebuilder_call(st, y.bytes, y.bits, message, 17, &mut string, &mut question);
     match out.answer {
-        Ok(Some(size)) => print_bytes(rt, &question[0..size.min(question.len())]),
+        Ok(Some(size)) => print_bytes(rt, &question[..size.min(question.len())]),
         Ok(None) => print(rt, b" finished"),
         Err(e) => print_refusal(rt, e),
     }?;
@@ -260,11 +261,11 @@ fn tell(
 }
 
 // The holder's answer to a question about X, and its state.
-fn ask(rt: &impl Print, st: Holder, x: &[u8], bits: usize, message: &[u8]) -> io::Result<Holder> {
+fn ask(rt: &impl Print, st: Holder, x: Text, message: &[u8]) -> io::Result<Holder> {
     let mut reply = [0u8; 9];
-    let out = ends::holder_call(st, x, bits, message, &mut reply);
+    let out = ends::holder_call(st, x.bytes, x.bits, message, &mut reply);
     match out.answer {
-        Ok(size) => print_bytes(rt, &reply[0..size.min(reply.len())]),
+        Ok(size) => print_bytes(rt, &reply[..size.min(reply.len())]),
         Err(e) => print_refusal(rt, e),
     }?;
     print(rt, b";")?;
@@ -272,62 +273,67 @@ fn ask(rt: &impl Print, st: Holder, x: &[u8], bits: usize, message: &[u8]) -> io
 }
 
 // The first state of a rebuilder with m = h = 8.
-fn begin(y: &[u8], bits: usize) -> Rebuilder {
+fn begin(copy: Text) -> Result<Rebuilder, Refusal> {
+    let Text { bytes: y, bits } = copy;
     let mut question = [0u8; 8];
-    let out = ends::rebuilder_start(Settings::new(8, 8, 1, 1, 100), y, bits, &mut question);
-    out.state
+    let started = ends::rebuilder_start(Settings::new(8, 8, 1, 1, 100), y, bits, &mut question)?;
+    Ok(started.state)
 }
 
 // A piece of 63 bits goes as bits; one of 64 gets anchors at 28, 36 and 20 first: no byte of ones stands in zeros.
 fn print_pieces(rt: &impl Print) -> io::Result<()> {
     let zeros = [0u8; 13];
-    let first = begin(&zeros, 104);
+    let y = Text::new(&zeros, 104);
+    let first = match begin(y) {
+        Err(e) => return print_refusal(rt, e),
+        Ok(first) => first,
+    };
     print(rt, b"questions for 63 bits, copy of 104 zeros:")?;
-    tell(rt, first, &zeros, 104, b"\x00\x3f")?;
+    tell(rt, first, y, b"\x00\x3f")?;
     print(rt, b"\nquestions for 64 ones, copy of 104 zeros:")?;
-    let one = tell(rt, first, &zeros, 104, b"\x00\x40")?;
-    let two = tell(rt, one, &zeros, 104, b"\x03\xff")?;
-    let three = tell(rt, two, &zeros, 104, b"\x03\xff")?;
-    let four = tell(rt, three, &zeros, 104, b"\x03\xff")?;
-    tell(
-        rt,
-        four,
-        &zeros,
-        104,
-        b"\x03\xff\xff\xff\xff\xff\xff\xff\xff",
-    )?;
+    let one = tell(rt, first, y, b"\x00\x40")?;
+    let two = tell(rt, one, y, b"\x03\xff")?;
+    let three = tell(rt, two, y, b"\x03\xff")?;
+    let four = tell(rt, three, y, b"\x03\xff")?;
+    tell(rt, four, y, b"\x03\xff\xff\xff\xff\xff\xff\xff\xff")?;
     print(rt, b"\n")
 }
 
 // 0000 cannot be repaired to 100: the bits are asked for.
 fn print_none(rt: &impl Print) -> io::Result<()> {
+    let x = Text::new(b"\x80", 3);
     print(rt, b"answers for 100:")?;
-    let opened = ask(rt, ends::fresh_holder(), b"\x80", 3, b"\x00\x01\x08\x01")?;
-    let second = ask(rt, opened, b"\x80", 3, b"\x02\x00\x03")?;
-    ask(rt, second, b"\x80", 3, b"\x03\x00\x03")?;
+    let opened = ask(rt, ends::fresh_holder(), x, b"\x00\x01\x08\x01")?;
+    let second = ask(rt, opened, x, b"\x02\x00\x03")?;
+    ask(rt, second, x, b"\x03\x00\x03")?;
     print(rt, b"\nquestions for 100, copy 0000:")?;
-    let one = tell(rt, begin(b"\x00", 4), b"\x00", 4, b"\x00\x03")?;
-    let two = tell(rt, one, b"\x00", 4, b"\x02\x01\x21")?;
-    tell(rt, two, b"\x00", 4, b"\x03\x80")?;
+    let y = Text::new(b"\x00", 4);
+    let first = match begin(y) {
+        Err(e) => return print_refusal(rt, e),
+        Ok(first) => first,
+    };
+    let one = tell(rt, first, y, b"\x00\x03")?;
+    let two = tell(rt, one, y, b"\x02\x01\x21")?;
+    tell(rt, two, y, b"\x03\x80")?;
     print(rt, b"\n")
 }
 
 fn print_place(rt: &impl Print, answer: Result<Option<usize>, Refusal>) -> io::Result<()> {
     match answer {
-        Ok(Some(r)) => print_number(rt, r as u64),
+        Ok(Some(r)) => print_number(rt, r),
         Ok(None) => print(rt, b" none"),
         Err(e) => print_refusal(rt, e),
     }
 }
 
 // The place of eight ones that stand at bit r of 66 zeros, as an anchor at offset 28 of 64 bits, with k = 1.
-fn print_place_at(rt: &impl Print, r: u32) -> io::Result<()>
+fn print_place_at(rt: &impl Print, r: usize) -> io::Result<()>
     requires { r ≤ 58 }
 {
     let mut y = [0u8; 9];
-    let at = (r / 8) as usize;
-    y[at] = 255u8 >> (r % 8);
-    y[at + 1] = ((65280u32 >> (r % 8)) % 256) as u8;
+    for i in r..r + 8 {
+        strings::set_bit(&mut y, i, true);
+    }
     print_place(rt, ends::find_anchor(&y, 66, 0, 66, 64, 28, 8, 1, b"\xff"))
 }
 

@@ -2,8 +2,9 @@
 ghost use Rattle.std.specs.Prelude.{◌≡◌, ◌+◌, ◌-◌, ◌≤◌, ◌<◌};
 ghost use Rattle.strings.specs.Bits.{bit_at, Part, Eight};
 
-// The `len` bits of `bytes` from bit `start` on.
-#[derive(Clone, Copy)]
+// The `len` bits of `bytes` from bit `start` on. No equality is derived: it would compare whole bytes, where equal bits may stand at other
+// places of other bytes.
+#[derive(Clone, Copy, Debug)]
 pub struct BitRange<'a> {
     pub bytes: &'a [u8],
     pub start: usize,

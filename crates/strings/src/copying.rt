@@ -1,6 +1,6 @@
-// The bits of a range written into a buffer. Buffer and place stay two parameters, here and in `codes`: the room that is required differs from
-// function to function, and a struct with a lent buffer would say in each clause that it keeps it.
-ghost use Rattle.std.specs.Prelude.{◌≡◌, ◌+◌, ◌*◌, ◌≤◌, length};
+// The bits of a range written into a buffer. Buffer and place stay two parameters, here, in `codes` and in `messages`: the room that is
+// required differs from function to function, and a struct with a lent buffer would say in each clause that it keeps it.
+ghost use Rattle.std.specs.Prelude.{◌≡◌, ◌+◌, ◌*◌, ◌/◌, ◌≤◌, length};
 ghost use Rattle.strings.specs.Bits.{range, write_bits, Part};
 ghost use Rattle.strings.specs.Ranges.{bits};
 
@@ -16,13 +16,12 @@ fn copy_singly(from: BitRange, to: &mut [u8], at: usize)
     }
 }
 
-// The first 8 * count bits become the count bytes of `to` from index `at` on.
-fn copy_bytes(from: BitRange, count: usize, to: &mut [u8], at: usize)
-    requires count_le_len { 8 * count ≤ from.len }
-    requires count_in_bounds { at + count ≤ length to.old }
-    ensures { to.new ≡ write_bits to.old (8 * at) (range from.entry.bytes.now from.entry.start (8 * count)) }
+// The whole bytes of a range become bytes of `to` from index `at` on; the bits behind the last are left.
+fn copy_bytes(from: BitRange, to: &mut [u8], at: usize)
+    requires { at + from.len / 8 ≤ length to.old }
+    ensures { to.new ≡ write_bits to.old (8 * at) (range from.entry.bytes.now from.entry.start (8 * (from.entry.len / 8))) }
 {
-    for i in 0..count {
+    for i in 0..from.len / 8 {
         to[at + i] = from.byte(8 * i);
     }
 }
@@ -38,9 +37,9 @@ pub fn copy_bits(from: BitRange, to: &mut [u8], at: usize)
         copy_singly(from, to, at);
         return;
     }
-    let count = (from.len - head) / 8;
-    let done = head + 8 * count;
+    let rest = from.skip(head);
+    let done = head + 8 * (rest.len / 8);
     copy_singly(from.first(head), to, at);
-    copy_bytes(from.skip(head), count, to, (at + head) / 8);
+    copy_bytes(rest, to, (at + head) / 8);
     copy_singly(from.skip(done), to, at + done);
 }

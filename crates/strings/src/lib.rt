@@ -1,9 +1,10 @@
-// Bit strings packed in bytes, and the settings: the lowest of the four layers. First bit in the most significant place. Functions on a bit
-// or a range require that it lies in the string: the layers above know this, and a test at each bit would be for nothing.
+// Bit strings packed in bytes, and the settings: the lowest of the four layers. First bit in the most significant place. A function on a
+// bit requires that it lies in the string: the layers above know this, and a test at each bit would be for nothing. Of a `BitRange` it is
+// known.
 #![tactic(auto)]
 
-ghost use Rattle.std.specs.Prelude.{◌≡◌, ◌+◌, ◌*◌, ◌≤◌, ◌<◌, length};
-ghost use Rattle.strings.specs.Bits.{bit_at, set_bit, cleared, Eight};
+ghost use Rattle.std.specs.Prelude.{◌≡◌, ◌+◌, ◌*◌, ◌≤◌, ◌<◌, length, leb};
+ghost use Rattle.strings.specs.Bits.{bit_at, bytes_for, set_bit, cleared, Eight};
 ghost use Rattle.strings.specs.StringRule.{string_rule};
 ghost use Rattle.strings.specs.Refusals.{refusal_number};
 
@@ -75,11 +76,18 @@ impl From<Refusal> for u32 {
 }
 
 // A byte as a number of 32 bits. Beside std's conversion, which says the value alone, it says the bound that keeps sums and products of
-// bytes in range.
+// bytes in range: without it each of the proofs that add them up would show it again.
 pub fn wide(b: u8) -> u32
     ensures { (result ≡ b) × (result ≤ 255) }
 {
     b as u32
+}
+
+// How many bytes that many bits take.
+pub fn bytes_for(bits: usize) -> usize
+    ensures { result ≡ bytes_for bits }
+{
+    bits.div_ceil(8)
 }
 
 // Whether the bytes are a string of that many bits. Only the length and the last byte are looked at.
@@ -89,7 +97,7 @@ pub fn keeps_string_rule(s: &[u8], bits: usize) -> bool
     if MAX_BITS < bits {
         return false;
     }
-    if s.len() != (bits + 7) / 8 {
+    if s.len() != bytes_for(bits) {
         return false;
     }
     let used = bits % 8;
@@ -97,6 +105,13 @@ pub fn keeps_string_rule(s: &[u8], bits: usize) -> bool
         return true;
     }
     s[bits / 8] % (1u8 << (8 - used)) == 0
+}
+
+// Whether start + len is at most end; the sum itself may not fit.
+pub fn ends_by(start: usize, len: usize, end: usize) -> bool
+    ensures { result ≡ leb (start + len) end }
+{
+    len <= end && start <= end - len
 }
 
 // Bit i.

@@ -4,4 +4,4 @@ use Rattle.cabi.specs.laws.PackingLaws.{number-packed}
 use Rattle.cabi.proofs.lo_list.Goals as goal
 
 pub returns : goal.returns
-returns c = let list = c.list_syndrome-answer in record { value = c.pack.ensures ∙ number-packed list.result (ap (λ (w : ListLeft). w.answer) list.ensures); out_after = ap (λ (w : ListLeft). w.buffer) list.ensures }
+returns c = let list = c.list_syndrome in record { value = c.pack.ensures ∙ number-packed list.result (ap (λ (w : ListLeft). w.answer) list.ensures); out_after = ap (λ (w : ListLeft). w.buffer) list.ensures }

@@ -6,4 +6,4 @@ use Rattle.cabi.specs.laws.PackingLaws.{said-buffer}
 use Rattle.cabi.proofs.lo_marker_read.Goals as goal
 
 pub returns : goal.returns
-returns c = let read = c.read_marker-answer in record { value = c.pack.ensures ∙ ap (λ (w : RepairLeft). packed (mapped done_number w.answer)) read.ensures; out_after = sym (said-buffer read.result read.new.out) ∙ ap (λ (w : RepairLeft). w.buffer) read.ensures }
+returns c = let read = c.read_marker in record { value = c.pack.ensures ∙ ap (λ (w : RepairLeft). packed (mapped done_number w.answer)) read.ensures; out_after = sym (said-buffer read.result read.new.out) ∙ ap (λ (w : RepairLeft). w.buffer) read.ensures }

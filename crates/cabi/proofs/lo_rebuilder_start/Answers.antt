@@ -17,15 +17,15 @@ returns-then-capacity-lt-REBUILDER_BYTES c =
 
 pub pack_value-requires : goal.pack_value-requires
 pack_value-requires c =
-    let called = start_called (record { m = c.args.m; h = c.args.h; k = c.args.k; key = c.args.key; ceiling = c.args.ceiling }) c.args.y.now c.args.bits c.args.state.now c.args.question.now c.rebuilder_start-out.result c.new-s.ensures (sym c.is_within_limits.ensures ∙ c.if-not-is_within_limits.false) (sym c.keeps_string_rule.ensures ∙ c.if-not-keeps_string_rule.false) (let w = c.if-capacity-lt-REBUILDER_BYTES.false in omega arith) c.rebuilder_start-out.ensures in
+    let called = start_called (record { m = c.args.m; h = c.args.h; k = c.args.k; key = c.args.key; ceiling = c.args.ceiling }) c.args.y.now c.args.bits c.args.state.now c.args.question.now _ c.rebuilder_start.result c.new-s.ensures (sym c.is_within_limits.ensures ∙ c.if-not-is_within_limits.false) (sym c.keeps_string_rule.ensures ∙ c.if-not-keeps_string_rule.false) (let w = c.if-capacity-lt-REBUILDER_BYTES.false in omega arith) c.rebuilder_start.ensures in
     let small = start_small called c.in-Ok.is in omega arith
 
 pub returns-in-Err : goal.returns-in-Err
 returns-in-Err c =
-    let called = start_called (record { m = c.args.m; h = c.args.h; k = c.args.k; key = c.args.key; ceiling = c.args.ceiling }) c.args.y.now c.args.bits c.args.state.now c.args.question.now c.rebuilder_start-out.result c.new-s.ensures (sym c.is_within_limits.ensures ∙ c.if-not-is_within_limits.false) (sym c.keeps_string_rule.ensures ∙ c.if-not-keeps_string_rule.false) (let w = c.if-capacity-lt-REBUILDER_BYTES.false in omega arith) c.rebuilder_start-out.ensures in
+    let called = start_called (record { m = c.args.m; h = c.args.h; k = c.args.k; key = c.args.key; ceiling = c.args.ceiling }) c.args.y.now c.args.bits c.args.state.now c.args.question.now _ c.rebuilder_start.result c.new-s.ensures (sym c.is_within_limits.ensures ∙ c.if-not-is_within_limits.false) (sym c.keeps_string_rule.ensures ∙ c.if-not-keeps_string_rule.false) (let w = c.if-capacity-lt-REBUILDER_BYTES.false in omega arith) c.rebuilder_start.ensures in
     start-declined called c.in-Err.is c.pack_refusal-in-Err.ensures
 
 pub returns-in-Ok : goal.returns-in-Ok
 returns-in-Ok c =
-    let called = start_called (record { m = c.args.m; h = c.args.h; k = c.args.k; key = c.args.key; ceiling = c.args.ceiling }) c.args.y.now c.args.bits c.args.state.now c.args.question.now c.rebuilder_start-out.result c.new-s.ensures (sym c.is_within_limits.ensures ∙ c.if-not-is_within_limits.false) (sym c.keeps_string_rule.ensures ∙ c.if-not-keeps_string_rule.false) (let w = c.if-capacity-lt-REBUILDER_BYTES.false in omega arith) c.rebuilder_start-out.ensures in
+    let called = start_called (record { m = c.args.m; h = c.args.h; k = c.args.k; key = c.args.key; ceiling = c.args.ceiling }) c.args.y.now c.args.bits c.args.state.now c.args.question.now _ c.rebuilder_start.result c.new-s.ensures (sym c.is_within_limits.ensures ∙ c.if-not-is_within_limits.false) (sym c.keeps_string_rule.ensures ∙ c.if-not-keeps_string_rule.false) (let w = c.if-capacity-lt-REBUILDER_BYTES.false in omega arith) c.rebuilder_start.ensures in
     rw c.pack_value.ensures (start-begun called c.in-Ok.is c.write_rebuilder.ensures)

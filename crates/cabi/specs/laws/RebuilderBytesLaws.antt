@@ -1,5 +1,5 @@
 -- Laws of the rebuilder's start and call on bytes: its returns, that a change of the sheet lies in its bytes, that results are small.
-use Rattle.std.specs.Prelude.{◌≡◌, Option as CodeOption, Some, None, Ok, Err, unwrap_or, true, false, List, [], ◌∷◌, ◌++◌, ℕ, ◌*◌, ◌≤◌, ◌<◌, drop}
+use Rattle.std.specs.Prelude.{◌≡◌, Result as CodeResult, Option as CodeOption, Some, None, Ok, Err, unwrap_or, true, false, List, [], ◌∷◌, ◌++◌, ℕ, ◌*◌, ◌≤◌, ◌<◌, drop}
 use Rattle.std.proofs.Math.Path.{refl, ap}
 use Rattle.std.proofs.Common.{sym, ◌∙◌, arith, length-append}
 use Rattle.std.proofs.Math.Option.{Option, none, some}
@@ -27,7 +27,7 @@ use Rattle.ends.specs.States.{planned}
 use Rattle.ends.specs.RebuilderCall.{Started, rebuilder_start, Taken, Capacities, rebuilder_call, written_question, step_of, string_after, rows_needed}
 use Rattle.ends.specs.laws.Asking.{TakenCall, taken-call}
 use Rattle.ends.specs.laws.Delivery.{started-is}
-use Rattle.ends.specs.declared.rebuilding.StartOut.{StartOut}
+use Rattle.ends.specs.declared.rebuilding.Started.{Started as CodeStarted}
 use Rattle.ends.specs.declared.rebuilding.RebuilderOut.{RebuilderOut}
 use Rattle.ends.specs.RebuilderOutcome.{StartSaid, said_start, leaves_start, call_said, RebuilderSaid, said_rebuilder, next_size, leaves_rebuilder}
 use Rattle.ends.proofs.code.SheetCallLaws.{change-fits}
@@ -290,48 +290,41 @@ module _ (S : Settings) (y : List ℕ) (bits : ℕ) (s question : List ℕ) wher
     unfolding start_on_bytes
     started h = rw (e, f, le-leb rebuilder_size (length s) h) refl
 
-module _ (s question question' : List ℕ) (out : StartOut) where
-  start-declines : (t : Result Started) (e : Refusal) → said_start out question' ≡ leaves_start question t → out.answer ≡ Err e
+module _ (s question question' : List ℕ) (out : CodeResult CodeStarted Refusal) where
+  start-declines : (t : Result Started) (e : Refusal) → said_start out question' ≡ leaves_start question t → out ≡ Err e
       → record { result = packed (refusal (refusal_number e)); state = s; question = question' } ≡ start_left s question t
   start-declines (refusal number) e k f =
-      let a : said out.answer ≡ refusal number = ap (λ (w : StartSaid). w.answer) k in
-      let i : said out.answer ≡ refusal (refusal_number e) = ap said f in
+      let i : said_start (Err e) question' ≡ leaves_start question (refusal number) = sym (ap (λ (o : CodeResult CodeStarted Refusal). said_start o question') f) ∙ k in
+      let a : refusal (refusal_number e) ≡ refusal number = ap (λ (w : StartSaid). w.answer) i in
       let b : refusal_number e ≡ number = cc in
-      let g : question' ≡ question = ap (λ (w : StartSaid). w.question) k in
+      let g : question' ≡ question = ap (λ (w : StartSaid). w.question) i in
       rw (b, g) refl
-  start-declines (value b) e k f =
-      let a : said out.answer ≡ value (length b.question) = ap (λ (w : StartSaid). w.answer) k in
-      let i : said out.answer ≡ refusal (refusal_number e) = ap said f in
-      absurd (no_value (refusal_number e) (length b.question) (sym i ∙ a))
+  start-declines (value v) e k f =
+      let i : said_start (Err e) question' ≡ leaves_start question (value v) = sym (ap (λ (o : CodeResult CodeStarted Refusal). said_start o question') f) ∙ k in
+      absurd (no_value (refusal_number e) (length v.question) (ap (λ (w : StartSaid). w.answer) i))
 
-  start-begins : (t : Result Started) (size : ℕ) (s' : List ℕ) → said_start out question' ≡ leaves_start question t → out.answer ≡ Ok size
-      → s' ≡ rebuilder_bytes out.state ++ drop rebuilder_size s
-      → record { result = size * value_unit; state = s'; question = question' } ≡ start_left s question t
-  unfolding packed
-  start-begins (refusal number) size s' k f g =
-      let a : said out.answer ≡ refusal number = ap (λ (w : StartSaid). w.answer) k in
-      let i : said out.answer ≡ value size = ap said f in
-      absurd (no_value number size (sym a ∙ i))
-  start-begins (value v) size s' k f g =
-      let a : said out.answer ≡ value (length v.question) = ap (λ (w : StartSaid). w.answer) k in
-      let j : said out.answer ≡ value size = ap said f in
-      let b : size ≡ length v.question = value-is (sym j ∙ a) in
-      let c : out.state ≡ v.state = ap (λ (w : StartSaid). w.state) k in
-      let d : question' ≡ at_front v.question question = ap (λ (w : StartSaid). w.question) k in
-      let h : s' ≡ at_front (rebuilder_bytes v.state) s = g ∙ front s out.state v.state c in
-      rw (b, h, d) refl
+  module _ (b : CodeStarted) (f : out ≡ Ok b) where
+    begun-said : (t : Result Started) → said_start out question' ≡ leaves_start question t → said_start (Ok b) question' ≡ leaves_start question t
+    begun-said t k = sym (ap (λ (o : CodeResult CodeStarted Refusal). said_start o question') f) ∙ k
 
-  start-size : (t : Result Started) (size : ℕ) → said_start out question' ≡ leaves_start question t → out.answer ≡ Ok size
-      → ((v : Started) → t ≡ value v → length v.question ≤ 16) → size ≤ 16
-  start-size (refusal number) size k f h =
-      let a : said out.answer ≡ refusal number = ap (λ (w : StartSaid). w.answer) k in
-      let i : said out.answer ≡ value size = ap said f in
-      absurd (no_value number size (sym a ∙ i))
-  start-size (value v) size k f h =
-      let a : said out.answer ≡ value (length v.question) = ap (λ (w : StartSaid). w.answer) k in
-      let j : said out.answer ≡ value size = ap said f in
-      let b : size ≡ length v.question = value-is (sym j ∙ a) in
-      let i = h v refl in omega arith
+    start-begins : (t : Result Started) (s' : List ℕ) → said_start out question' ≡ leaves_start question t
+        → s' ≡ rebuilder_bytes b.state ++ drop rebuilder_size s
+        → record { result = b.size * value_unit; state = s'; question = question' } ≡ start_left s question t
+    unfolding packed
+    start-begins (refusal number) s' k g = absurd (no_value number b.size (sym (ap (λ (w : StartSaid). w.answer) (begun-said (refusal number) k))))
+    start-begins (value v) s' k g =
+        let i = begun-said (value v) k in
+        let c : b.size ≡ length v.question = value-is (ap (λ (w : StartSaid). w.answer) i) in
+        let e : b.state ≡ v.state = ap (λ (w : StartSaid). w.state) i in
+        let d : question' ≡ at_front v.question question = ap (λ (w : StartSaid). w.question) i in
+        let h : s' ≡ at_front (rebuilder_bytes v.state) s = g ∙ front s b.state v.state e in
+        rw (c, h, d) refl
+
+    start-size : (t : Result Started) → said_start out question' ≡ leaves_start question t → ((v : Started) → t ≡ value v → length v.question ≤ 16) → b.size ≤ 16
+    start-size (refusal number) k h = absurd (no_value number b.size (sym (ap (λ (w : StartSaid). w.answer) (begun-said (refusal number) k))))
+    start-size (value v) k h =
+        let c : b.size ≡ length v.question = value-is (ap (λ (w : StartSaid). w.answer) (begun-said (value v) k)) in
+        let i = h v refl in omega arith
 
 -- for the code: what is known where the start has answered; the settings were given as a struct
 pub record StartCalled : Type 0 where
@@ -342,7 +335,7 @@ pub record StartCalled : Type 0 where
   pub s : List ℕ
   pub question : List ℕ
   pub question' : List ℕ
-  pub out : StartOut
+  pub out : CodeResult CodeStarted Refusal
   pub same : given ≡ S
   pub limits : within_limits S ≡ true
   pub rule : string_rule y bits ≡ true
@@ -350,10 +343,10 @@ pub record StartCalled : Type 0 where
   pub said : said_start out question' ≡ leaves_start question (rebuilder_start given y bits (length question))
 
 -- a start of these, from what the code's steps say
-abbrev pub start_called : (S : Settings) {given : Settings} (y : List ℕ) (bits : ℕ) (s question : List ℕ) {question' : List ℕ} (out : StartOut)
+abbrev pub start_called : (S : Settings) {given : Settings} (y : List ℕ) (bits : ℕ) (s question question' : List ℕ) (out : CodeResult CodeStarted Refusal)
     → given ≡ S → within_limits given ≡ true → string_rule y bits ≡ true → rebuilder_size ≤ length s
     → said_start out question' ≡ leaves_start question (rebuilder_start given y bits (length question)) → StartCalled
-start_called S {given} y bits s question {question'} out same limits rule capacity said = record {
+start_called S {given} y bits s question question' out same limits rule capacity said = record {
   S = S;
   given = given;
   y = y;
@@ -377,9 +370,9 @@ module _ (k : StartCalled) where
   said-began : said_start k.out k.question' ≡ leaves_start k.question began
   said-began = k.said ∙ ap (λ (z : Settings). leaves_start k.question (rebuilder_start z k.y k.bits (length k.question))) k.same
 
-  pub start_small : {size : ℕ} → k.out.answer ≡ Ok size → size ≤ 16
-  start_small {size} a =
-      start-size k.s k.question k.question' k.out began size said-began a
+  pub start_small : {b : CodeStarted} → k.out ≡ Ok b → b.size ≤ 16
+  start_small {b} a =
+      start-size k.s k.question k.question' k.out b a began said-began
       (λ v t. rw (started-is k.S k.y k.bits (length k.question) v.state v.question t).question (question-most (AskOpen k.S.h k.S.key)))
 
   abbrev pub start_leaves : StartLeft
@@ -388,9 +381,9 @@ module _ (k : StartCalled) where
   began-leaves : start_left k.s k.question began ≡ start_leaves
   began-leaves = sym (rw (started k.S k.y k.bits k.s k.question k.limits k.rule k.capacity) refl)
 
-  pub start-declined : {d : Refusal} {r : ℕ} → k.out.answer ≡ Err d → r ≡ packed (refusal (refusal_number d)) → record { result = r; state = k.s; question = k.question' } ≡ start_leaves
+  pub start-declined : {d : Refusal} {r : ℕ} → k.out ≡ Err d → r ≡ packed (refusal (refusal_number d)) → record { result = r; state = k.s; question = k.question' } ≡ start_leaves
   start-declined {d} a i = (rw i (start-declines k.s k.question k.question' k.out began d said-began a)) ∙ began-leaves
 
-  pub start-begun : {size : ℕ} {s' : List ℕ} → k.out.answer ≡ Ok size → s' ≡ rebuilder_bytes k.out.state ++ drop rebuilder_size k.s
-      → record { result = size * value_unit; state = s'; question = k.question' } ≡ start_leaves
-  start-begun {size} {s'} a i = start-begins k.s k.question k.question' k.out began size s' said-began a i ∙ began-leaves
+  pub start-begun : {b : CodeStarted} {s' : List ℕ} → k.out ≡ Ok b → s' ≡ rebuilder_bytes b.state ++ drop rebuilder_size k.s
+      → record { result = b.size * value_unit; state = s'; question = k.question' } ≡ start_leaves
+  start-begun {b} {s'} a i = start-begins k.s k.question k.question' k.out b a began s' said-began i ∙ began-leaves

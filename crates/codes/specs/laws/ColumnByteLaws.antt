@@ -6,6 +6,7 @@ use mathlib.Core.List.{List, [], ◌∷◌, ◌++◌}
 use Prim.Native.Nat.{ℕ, zero, suc, ◌+◌, ◌-◌, ◌*◌, ◌/◌, ◌%◌, ◌^◌, ◌≤◌, ◌<◌}
 use Rattle.std.proofs.Math.Nat.{suc-mul, zero-mul}
 use Rattle.std.proofs.Math.Decide.{dec_le}
+use Rattle.std.proofs.Math.Pow.{pow_mono}
 use native.Mathlib.Omega.{arith}
 use mir.Val.{bool_byte}
 use Rattle.strings.specs.Bits.{bit_at, range, byte_bits, write_bits, Bytes, Part}
@@ -16,7 +17,7 @@ use Rattle.codes.specs.Listing.{number_of}
 use Rattle.codes.specs.code.Strides.{strided, StridedPart}
 use Rattle.codes.specs.laws.SyndromeLaws.{bit-most}
 use Rattle.codes.specs.laws.ColumnLaws.{column-length-behind}
-use Rattle.codes.specs.laws.ListingLaws.{number-none}
+use Rattle.codes.specs.laws.ListingLaws.{number-none, number-below, number-snoc}
 use Rattle.codes.specs.laws.ColumnReadLaws.{column-rest-first, column-turn, column-count}
 
 -- ---- bits at equal distances
@@ -113,6 +114,47 @@ four-most s p B x e =
     let mc = bit-most (bit_at s (p + B + B)) in
     let md = bit-most (bit_at s (p + B + B + B)) in
     omega arith
+
+-- ---- a byte gathered bit by bit: the number of the first i bits, one bit more, and the number of eight
+pub gathered_none : (s : List ℕ) (p B : ℕ) → 0 ≡ number_of (strided s p B 0)
+unfolding strided number_of
+gathered_none s p B = refl
+
+pub gathered_next : (s : List ℕ) (p B i v : ℕ) (b : Bool) → v ≡ number_of (strided s p B i) → b ≡ bit_at s (p + i * B) → 2 * v + bool_byte b ≡ number_of (strided s p B (i + 1))
+unfolding strided
+gathered_next s p B i v b e f =
+    ap₂ (λ (x : ℕ) (y : Bool). 2 * x + bool_byte y) e f ∙ sym (number-snoc (strided s p B i) (bit_at s (p + i * B))) ∙ ap number_of (sym (strided-add s p B i 1))
+
+pub gathered_most : (s : List ℕ) (p B i v : ℕ) → i < 8 → v ≡ number_of (strided s p B i) → v < 128
+gathered_most s p B i v h e =
+    let l = strided-length s p B i in
+    let n = number-below (strided s p B i) in
+    let q = ap (λ (k : ℕ). 2 ^ k) l in
+    let k : i ≤ 7 = omega arith in
+    let m : 2 ^ i ≤ 2 ^ 7 = pow_mono k in
+    omega arith
+
+number-eight : (a b c d e f g h : Bool) → number_of (a ∷ b ∷ c ∷ d ∷ e ∷ f ∷ g ∷ h ∷ []) ≡ 16 * number_of (a ∷ b ∷ c ∷ d ∷ []) + number_of (e ∷ f ∷ g ∷ h ∷ [])
+number-eight a b c d e f g h =
+    let r = number-four a b c d in
+    let x = number-next a (b ∷ c ∷ d ∷ e ∷ f ∷ g ∷ h ∷ []) 128 refl in
+    let y = number-next b (c ∷ d ∷ e ∷ f ∷ g ∷ h ∷ []) 64 refl in
+    let z = number-next c (d ∷ e ∷ f ∷ g ∷ h ∷ []) 32 refl in
+    let w = number-next d (e ∷ f ∷ g ∷ h ∷ []) 16 refl in
+    omega arith
+
+pub gathered_byte : (s : List ℕ) (p B v : ℕ) → v ≡ number_of (strided s p B 8) → byte_bits v ≡ strided s p B 8
+unfolding strided
+gathered_byte s p B v e =
+    let a = bit_at s p in
+    let b = bit_at s (p + B) in
+    let c = bit_at s (p + B + B) in
+    let d = bit_at s (p + B + B + B) in
+    let f = bit_at s (p + B + B + B + B) in
+    let g = bit_at s (p + B + B + B + B + B) in
+    let h = bit_at s (p + B + B + B + B + B + B) in
+    let i = bit_at s (p + B + B + B + B + B + B + B) in
+    ap byte_bits (e ∙ number-eight a b c d f g h i) ∙ byte-halves a b c d f g h i _ _ refl refl
 
 -- ---- a byte stored is its eight bits written
 one_byte : (v : ℕ) → v < 256 → Bytes (v ∷ [])

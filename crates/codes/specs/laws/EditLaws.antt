@@ -3,6 +3,7 @@ use Rattle.std.specs.Prelude.{◌≡◌, Bool, List, [], ◌∷◌, ◌++◌, �
 use Rattle.std.proofs.Math.Path.{sym}
 use Rattle.std.proofs.Common.{ap, ap₂, ◌∙◌, subst, arith}
 use Rattle.std.proofs.Math.Option.{Option, none, some}
+use Rattle.std.proofs.Math.Bridge.{le_prop}
 use Rattle.strings.specs.Bits.{range, set_bit, write_bits}
 use Rattle.strings.proofs.laws.RangeLaws.{range_length, range-take, range-drop}
 use Rattle.strings.proofs.laws.WriteLaws.{write-next, write-append}
@@ -41,6 +42,11 @@ module _ (r : Found Edit) (l : List Bool) (o : Option (List Bool)) (f : repaired
 
   pub nothing_is : r ≡ None → o ≡ none
   nothing_is h = sym f ∙ ap (λ (x : Found Edit). repaired x l) h
+
+-- an edit fits in one way only
+pub Fits-prop : (e : Edit) (len : ℕ) → IsProp (Fits e len)
+Fits-prop (Put i b) len = le_prop
+Fits-prop (Take i) len = le_prop
 
 pub found-fits : (r : Found Edit) (len : ℕ) (e : Edit) → RepairFits r len → r ≡ Some e → Fits e len
 found-fits r len e f h = subst (λ (x : Found Edit). RepairFits x len) h f

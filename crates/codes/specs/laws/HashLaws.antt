@@ -115,6 +115,10 @@ whole_append v (b ∷ l) m =
 pub went-first : (x v : ℕ) (l m : List Bool) → l ≡ m → Went x v l (bit_xor x (whole_hash v m)) (hash_row v (length m))
 went-first x v l m e = record { sums = ap (λ (u : List Bool). bit_xor x (whole_hash v u)) (sym e); rows = ap (λ (u : List Bool). hash_row v (length u)) (sym e) }
 
+pub went_none : (x v : ℕ) → Went x v [] x v
+unfolding whole_hash hash_row
+went_none x v = record { sums = sym (xor_zero_r x); rows = refl }
+
 pub went-last : (x v y w : ℕ) (l : List Bool) → l ≡ [] → Went x v l y w → (x ≡ y) × (v ≡ w)
 unfolding whole_hash hash_row
 went-last x v y w l e p =

@@ -37,7 +37,7 @@ number-below (true ∷ l) = let h = number-below l in let p = pow-suc 2 (length 
 number-below (false ∷ l) = let h = number-below l in let p = pow-suc 2 (length l) in omega arith
 
 -- one more digit
-number-snoc : (l : List Bool) (b : Bool) → number_of (l ++ (b ∷ [])) ≡ 2 * number_of l + bool_byte b
+pub number-snoc : (l : List Bool) (b : Bool) → number_of (l ++ (b ∷ [])) ≡ 2 * number_of l + bool_byte b
 unfolding number_of
 number-snoc [] true = refl
 number-snoc [] false = refl

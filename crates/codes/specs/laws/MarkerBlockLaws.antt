@@ -1,16 +1,17 @@
 -- Laws of marker words by blocks, for the loops that pass from power to power.
-use Rattle.std.specs.Prelude.{◌≡◌, refl, Bool, true, false, List, [], ◌∷◌, ◌++◌, ◌⊎◌, ℕ, zero, suc, ◌+◌, ◌-◌, ◌*◌, ◌/◌, ◌%◌, ◌≤◌, ◌<◌, length, take, drop, eqb}
+use Rattle.std.specs.Prelude.{◌≡◌, refl, Bool, true, false, List, [], ◌∷◌, ◌++◌, ◌⊎◌, ℕ, zero, suc, ◌+◌, ◌-◌, ◌*◌, ◌/◌, ◌%◌, ◌≤◌, ◌^◌, ◌<◌, length, get_or, take, drop, eqb}
 use Rattle.std.proofs.Common.{sym, ap, ap₂, ◌∙◌, subst, inl, inr, add-zero, zero-add, suc-add, mul-add, mul-zero, mul-one, mul_assoc, mul_comm, one-mul, arith, length-append, take_at, drop_at}
 use Rattle.std.proofs.Math.Decide.{dec_lt}
 use mir.Val.{bool_byte}
-use Rattle.strings.specs.Bits.{bit_at, range, set_bit, write_bits}
+use Rattle.strings.specs.Bits.{bit_at, range, set_bit, write_bits, pack}
 use Rattle.strings.proofs.laws.BitLaws.{set_bit-other}
-use Rattle.strings.proofs.laws.RangeLaws.{range_length, range-step, range-add, range-take, range-drop, range_none, range_same}
+use Rattle.strings.proofs.laws.RangeLaws.{range_length, range-step, range-add, range-take, range-drop, range_none, range_same, range_at, range-equal}
+use Rattle.strings.proofs.laws.PackLaws.{pack-bits}
 use Rattle.strings.proofs.laws.WriteLaws.{write-next, write-append, write-none}
 use Rattle.codes.specs.Markers.{is_power, message_bits, merged, check_number, message}
 use Rattle.codes.specs.code.MarkerBlocks.{powers_in, others_in, Block, powers_from, others_from, merged_from, number_from, message_from}
 use Rattle.codes.specs.laws.PowerLaws.{power_pos, power-between}
-use Rattle.codes.specs.laws.MarkerLaws.{others-powers, check-bits-powers, message-bits}
+use Rattle.codes.specs.laws.MarkerLaws.{others-powers, check-bits-powers, check-bits-log, message-bits}
 
 -- no power of two among the len places from k on
 abbrev Free : ℕ → ℕ → Type 0
@@ -301,6 +302,20 @@ pub digit-next : (n p v : ℕ) (t t₁ : List ℕ) (b : Bool) → is_power p ≡
     → write_bits t₁ (2 * p - 1) (merged_from n (2 * p) (v / 2) (message_from t₁ n (2 * p))) ≡ write_bits t (p - 1) (merged_from n p v (message_from t n p))
 digit-next n p v t t₁ b e g h d f = let k = block_of n p (power_pos p e) g in digit-turn n p k.0 e k.1 t t₁ v b h d f
 
+-- ---- a word that lies anywhere in its bytes is read as one that is packed
+pub packed-bit : (s : List ℕ) (a n i : ℕ) → i < n → bit_at (pack (range s a n)) i ≡ bit_at s (a + i)
+packed-bit s a n i h =
+    let l = range s a n in
+    let k = range_length s a n in
+    ap (bit_at (pack l)) (let z : i ≡ 0 + i = omega arith in z) ∙ sym (range_at (pack l) 0 (length l) i (omega arith))
+    ∙ ap (λ (x : List Bool). get_or x i false) (pack-bits l) ∙ range_at s a n i h
+
+pub packed-part : (s : List ℕ) (a n p len : ℕ) → p + len ≤ n → range (pack (range s a n)) p len ≡ range s (a + p) len
+packed-part s a n p len h = range-equal (pack (range s a n)) s p (a + p) len (λ j k. packed-bit s a n (p + j) (omega arith) ∙ ap (bit_at s) (let z : a + (p + j) ≡ a + p + j = omega arith in z))
+
+pub packed-whole : (s : List ℕ) (a n : ℕ) → range (pack (range s a n)) 0 n ≡ range s a n
+packed-whole s a n = packed-part s a n 0 n (omega arith) ∙ ap (λ (x : ℕ). range s x n) (let z : a + 0 ≡ a = omega arith in z)
+
 -- ---- from the first place
 all_of : (n : ℕ) → n - (1 - 1) ≡ n
 all_of n = omega arith
@@ -327,6 +342,10 @@ message-first s n = ap (λ (x : ℕ). message 1 (range s 0 x)) (all_of n)
 pub powers-last : (n p t : ℕ) → n < p → t + powers_from n p ≡ powers_in n 1 → n - t ≡ message_bits n
 unfolding message_bits
 powers-last n p t h e = let z = powers-none n p h in let c = check-bits-powers n in omega arith
+
+pub message-bits-log : (n t : ℕ) → 2 ^ t ≤ n → n < 2 * 2 ^ t → (t + 1 ≤ n) × (n - (t + 1) ≡ message_bits n)
+unfolding message_bits
+message-bits-log n t h g = let c = check-bits-log n t h g in let d = check-bits-powers n in let k = others-powers n 1 in (omega arith, omega arith)
 
 pub powers-most : (n : ℕ) → powers_in n 1 ≤ n
 powers-most n = let h = others-powers n 1 in omega arith

@@ -251,6 +251,14 @@ module _ (n : ℕ) where
           let p = pow-past c (check_bits n) (n + 1) (omega arith) (let g = check-bits-enough in omega arith) in
           omega arith
 
+  -- they are as many as the digits of n
+  pub check-bits-log : (t : ℕ) → 2 ^ t ≤ n → n < 2 * 2 ^ t → check_bits n ≡ t + 1
+  check-bits-log t h g =
+      let d = pow-suc 2 t in
+      let m = check-bits-least (suc t) (omega arith) in
+      let p = pow-past t (check_bits n) (n + 1) (omega arith) (let k = check-bits-enough in omega arith) in
+      omega arith
+
   pub message-bits : message_bits n ≡ others_in n 1
   unfolding message_bits
   message-bits = let h = others-powers n 1 in let e = check-bits-powers in omega arith

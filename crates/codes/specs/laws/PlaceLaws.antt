@@ -1,8 +1,8 @@
 -- Laws for the functions that find a place: the steps of their scans, and what they compute from the numbers that they hold.
-use Rattle.std.specs.Prelude.{◌≡◌, Bool, not, List, [], ◌∷◌, ◌++◌, take, drop, get_or, leb}
+use Rattle.std.specs.Prelude.{◌≡◌, Option, Some, None, SomeIff, IfSome, unwrap_or, Bool, not, List, [], ◌∷◌, ◌++◌, take, drop, get_or, leb}
 use Rattle.std.proofs.Math.Path.{refl, sym, ap, ap₂}
 use Rattle.std.proofs.Common.{◌∙◌, subst, add-zero, zero-add, zero-mul, suc-mul, mod-lt, mod-eq_of_lt, div-add-mod', length-drop, drop-cons, drop-drop}
-use Rattle.std.proofs.Math.Bool.{true, false, cond}
+use Rattle.std.proofs.Math.Bool.{true, false, cond, beq}
 use Rattle.std.proofs.Math.Option.{none, some}
 use Prim.Native.Nat.{ℕ, zero, suc, ◌+◌, ◌-◌, ◌*◌, ◌/◌, ◌%◌, ◌≤◌, ◌<◌}
 use Rattle.std.proofs.Math.Nat.{mod-add-mod, add-mod_right, add-mul-mod_self_right, mul-add-mod_self_right}
@@ -12,7 +12,9 @@ use Rattle.std.proofs.Math.ListN.{length}
 use Rattle.std.proofs.Math.Dec.{eqb}
 use borrow.Author.Tests.{le-leb, lt-leb, leb-true, eq-eqb, ne_eqb, eqb-true, eqb-false}
 use mir.Val.{bool_byte}
-use Rattle.strings.specs.Bits.{range, byte_bits, Eight}
+use Rattle.std.specs.Bool.{then_some}
+use Rattle.std.proofs.lemmas.List.{get_or_default, get_or_past}
+use Rattle.strings.specs.Bits.{range, byte_bits, differs, Eight}
 use Rattle.strings.specs.laws.Tests.{true-false}
 use Rattle.strings.proofs.laws.RangeLaws.{rest, range-add}
 use Rattle.codes.specs.Syndrome.{weighted_sum, syndrome}
@@ -20,7 +22,7 @@ use Rattle.codes.specs.laws.SyndromeLaws.{weighted-sum-without, ones-next, ones-
 use Rattle.codes.specs.Repair.{without, take_out}
 use Rattle.codes.specs.laws.RepairLaws.{zero-place-ones, length_without, without-deletion, take-out-unique, take-out-no}
 use Rattle.codes.specs.code.Sums.{Residue}
-use Rattle.codes.specs.code.Place.{ones, zeros, zero_place, one_place, lack, put_bit, put_place, first_take, take_place, zero_fall, one_fall, Falls, FirstFall}
+use Rattle.codes.specs.code.Place.{ones, zeros, zero_place, one_place, count_of, place_after, other_after, lack, put_bit, put_place, first_take, take_place, zero_fall, one_fall, Falls, FirstFall}
 
 -- ---- the place of a 0
 pub zero-place-stop : (r : ℕ) (l : List Bool) → ones l ≤ r → zero_place r l ≡ 0
@@ -73,6 +75,128 @@ one-place-pass z (false ∷ l) m h =
     let g = ap (λ (x : ℕ). one_place x m) q in
     omega arith
 
+-- ---- the place with k bits b before it
+pub place-after-stop : (b : Bool) (k : ℕ) (l : List Bool) → k ≡ 0 → place_after b k l ≡ 0
+place-after-stop b k l e = rw e refl
+
+pub place-after-empty : (b : Bool) (k : ℕ) → place_after b k [] ≡ 0
+place-after-empty b zero = refl
+place-after-empty b (suc k) = refl
+
+pub place-after-next : (b : Bool) (k : ℕ) (l l' : List Bool) (x : Bool) → l ≡ x ∷ l' → (k ≡ 0 → ⊥) → place_after b k l ≡ suc (place_after b (k - bool_byte (beq x b)) l')
+place-after-next b zero l l' x e h = absurd (h refl)
+place-after-next true (suc k) l l' true e h = rw e (ap (λ (n : ℕ). suc (place_after true n l')) (let q : k ≡ suc k - 1 = omega arith in q))
+place-after-next true (suc k) l l' false e h = rw e (ap (λ (n : ℕ). suc (place_after true n l')) (let q : suc k ≡ suc k - 0 = omega arith in q))
+place-after-next false (suc k) l l' true e h = rw e (ap (λ (n : ℕ). suc (place_after false n l')) (let q : suc k ≡ suc k - 0 = omega arith in q))
+place-after-next false (suc k) l l' false e h = rw e (ap (λ (n : ℕ). suc (place_after false n l')) (let q : k ≡ suc k - 1 = omega arith in q))
+
+pub count-next : (b x : Bool) (l : List Bool) → count_of b (x ∷ l) ≡ bool_byte (beq x b) + count_of b l
+count-next true true l = omega arith
+count-next true false l = omega arith
+count-next false true l = omega arith
+count-next false false l = omega arith
+
+pub one-place-after : (z : ℕ) (l : List Bool) → place_after false z l ≡ one_place z l
+one-place-after zero l = refl
+one-place-after (suc z) [] = refl
+one-place-after (suc z) (true ∷ l) = ap suc (one-place-after (suc z) l)
+one-place-after (suc z) (false ∷ l) = ap suc (one-place-after z l)
+
+pub zero-place-after : (r : ℕ) (l : List Bool) → place_after true (ones l - r) l ≡ zero_place r l
+zero-place-after r [] = ap (λ (n : ℕ). place_after true n []) (let q : 0 - r ≡ 0 = omega arith in q)
+zero-place-after r (x ∷ l) = go (dec_lt r (ones (x ∷ l))) (zero-place-after r l)
+  where
+    go : Dec (r < ones (x ∷ l)) → place_after true (ones l - r) l ≡ zero_place r l → place_after true (ones (x ∷ l) - r) (x ∷ l) ≡ zero_place r (x ∷ l)
+    go (yes h) ih =
+        let c = count-next true x l in
+        let q : ones (x ∷ l) - r - bool_byte (beq x true) ≡ ones l - r = omega arith in
+        place-after-next true (ones (x ∷ l) - r) (x ∷ l) l x refl (λ z. omega arith) ∙ ap (λ (n : ℕ). suc (place_after true n l)) q
+        ∙ ap suc ih ∙ sym (zero-place-next r (x ∷ l) l x refl h)
+    go (no h) ih = place-after-stop true (ones (x ∷ l) - r) (x ∷ l) (omega arith) ∙ sym (zero-place-stop r (x ∷ l) (omega arith))
+
+-- bits are passed together where fewer of them than are to be passed are b
+pub place-after-pass : (b : Bool) (k : ℕ) (l m : List Bool) → count_of b l < k → place_after b k (l ++ m) ≡ length l + place_after b (k - count_of b l) m
+place-after-pass b k [] m h = go b
+  where
+    go : (b : Bool) → place_after b k m ≡ 0 + place_after b (k - count_of b []) m
+    go true = let q : k ≡ k - 0 = omega arith in ap (λ (n : ℕ). place_after true n m) q ∙ sym (zero-add (place_after true (k - 0) m))
+    go false = let q : k ≡ k - 0 = omega arith in ap (λ (n : ℕ). place_after false n m) q ∙ sym (zero-add (place_after false (k - 0) m))
+place-after-pass b k (x ∷ l) m h =
+    let e = place-after-next b k (x ∷ (l ++ m)) (l ++ m) x refl (λ q. omega arith) in
+    let c : count_of b (x ∷ l) ≡ bool_byte (beq x b) + count_of b l = count-next b x l in
+    let f = place-after-pass b (k - bool_byte (beq x b)) l m (omega arith) in
+    let q : k - bool_byte (beq x b) - count_of b l ≡ k - count_of b (x ∷ l) = omega arith in
+    let g = ap (λ (n : ℕ). place_after b n m) q in
+    omega arith
+
+pub count-rest : (b : Bool) (l : List Bool) (n w : ℕ) → length l ≡ n → w ≡ ones l → b ≡ false → n - w ≡ count_of b l
+count-rest b l n w e f h = let o = ones-zeros l in let z : n - w ≡ zeros l = omega arith in rw h z
+
+-- the places of a 0 and of a 1 that are put in, from the count w of ones
+pub zero-after : (l : List Bool) (w r p : ℕ) → w ≡ ones l → p ≡ place_after true (w - r) l → p ≡ zero_place r l
+zero-after l w r p e f = f ∙ ap (λ (n : ℕ). place_after true (n - r) l) e ∙ zero-place-after r l
+
+pub one-after : (l : List Bool) (z p : ℕ) → p ≡ place_after false z l → p ≡ one_place z l
+one-after l z p f = f ∙ one-place-after z l
+
+-- ---- whether the other bit stands there
+differs-not : (x b : Bool) → not (beq x b) ≡ differs x b
+differs-not true true = refl
+differs-not true false = refl
+differs-not false true = refl
+differs-not false false = refl
+
+differs-same : (b : Bool) → differs b b ≡ false
+differs-same true = refl
+differs-same false = refl
+
+pub other-past : (b : Bool) (l : List Bool) (n p : ℕ) → length l ≡ n → n ≤ p → false ≡ differs (get_or l p b) b
+other-past b l n p e h = sym (ap (λ (x : Bool). differs x b) (get_or_past l p b (omega arith)) ∙ differs-same b)
+
+pub other-at : (b x : Bool) (l : List Bool) (n p : ℕ) → length l ≡ n → p < n → x ≡ get_or l p false → not (beq x b) ≡ differs (get_or l p b) b
+other-at b x l n p e h f = differs-not x b ∙ ap (λ (y : Bool). differs y b) (f ∙ get_or_default l p false b (omega arith))
+
+pub other-after-none : (b : Bool) (k : Option ℕ) (l : List Bool) → k ≡ None → None ≡ other_after b k l
+unfolding other_after
+other-after-none b k l e = rw e refl
+
+-- p is the place with j bits b before it, t whether the other bit stands there
+pub other-after-is : (b : Bool) (k : Option ℕ) (j : ℕ) (l : List Bool) (p : ℕ) (t : Bool) → k ≡ Some j → p ≡ place_after b j l → t ≡ differs (get_or l p b) b → then_some t p ≡ other_after b k l
+unfolding other_after
+other-after-is b k j l p t h e f = rw h (ap₂ (λ (u : Bool) (q : ℕ). then_some u q) (f ∙ ap (λ (q : ℕ). differs (get_or l q b) b) e) e)
+
+differs-there : (x b : Bool) → differs x b ≡ true → x ≡ not b
+differs-there true true d = absurd (true-false (sym d))
+differs-there true false d = refl
+differs-there false true d = refl
+differs-there false false d = absurd (true-false (sym d))
+
+differs-absent : (x b : Bool) → differs x b ≡ false → x ≡ b
+differs-absent true true d = refl
+differs-absent true false d = absurd (true-false d)
+differs-absent false true d = absurd (true-false d)
+differs-absent false false d = refl
+
+other-there : (b : Bool) (l : List Bool) (p : ℕ) → differs (get_or l p b) b ≡ true → (p < length l) × (get_or l p false ≡ not b)
+other-there b l p d = go (dec_lt p (length l))
+  where
+    go : Dec (p < length l) → (p < length l) × (get_or l p false ≡ not b)
+    go (yes h) = (h, get_or_default l p false b h ∙ differs-there (get_or l p b) b d)
+    go (no h) = absurd (true-false (sym d ∙ sym (other-past b l (length l) p refl (omega arith))))
+
+other-absent : (b : Bool) (l : List Bool) (p : ℕ) → p < length l → differs (get_or l p b) b ≡ false → get_or l p false ≡ b
+other-absent b l p h d = get_or_default l p false b h ∙ differs-absent (get_or l p b) b d
+
+-- the other bit stands within
+pub other-within : (b : Bool) (k o : Option ℕ) (l : List Bool) (n : ℕ) → length l ≡ n → o ≡ other_after b k l → IfSome o (λ i. i < n)
+unfolding other_after
+other-within b None o l n e q = rw q tt
+other-within b (Some k) o l n e q = rw q (go (differs (get_or l (place_after b k l) b) b) refl)
+  where
+    go : (t : Bool) → differs (get_or l (place_after b k l) b) b ≡ t → IfSome (then_some t (place_after b k l)) (λ i. i < n)
+    go true d = let t = other-there b l (place_after b k l) d in omega (arith, t.0)
+    go false d = tt
+
 -- ---- a byte passed
 module _ (s : List ℕ) (start len i v : ℕ) (h : i + 8 ≤ len) (e : Eight s (start + i) v) where
   rest-eight : rest s start len i ≡ byte_bits v ++ rest s start len (i + 8)
@@ -93,6 +217,12 @@ module _ (s : List ℕ) (start len i v : ℕ) (h : i + 8 ≤ len) (e : Eight s (
       let o : ones (byte_bits v) + zeros (byte_bits v) ≡ 8 = ones-zeros (byte_bits v) in
       let q : zeros (byte_bits v) ≡ n = omega arith in
       ap (one_place z) rest-eight ∙ one-place-pass z (byte_bits v) (rest s start len (i + 8)) (omega arith) ∙ ap (λ (x : ℕ). 8 + one_place (z - x) (rest s start len (i + 8))) q
+
+  -- n are the bits b of the byte
+  pub place-after-byte : (b : Bool) (k n : ℕ) → n ≡ count_of b (byte_bits v) → n < k → place_after b k (rest s start len i) ≡ 8 + place_after b (k - n) (rest s start len (i + 8))
+  place-after-byte b k n f g =
+      ap (place_after b k) rest-eight ∙ place-after-pass b k (byte_bits v) (rest s start len (i + 8)) (omega arith)
+      ∙ ap (λ (x : ℕ). 8 + place_after b (k - x) (rest s start len (i + 8))) (sym f)
 
 -- ---- the bit and the place, from the length n, the modulus m, the sum x modulo m, the ones w and the lack d
 pub lack-residue : (a : ℕ) (l : List Bool) (n m x d : ℕ) → length l ≡ n → m ≡ n + 2 → Residue m (weighted_sum 1 l) x → Residue m (a + (m - x)) d → d ≡ lack a l
@@ -245,6 +375,41 @@ module _ (l : List Bool) (n : ℕ) (e : length l ≡ n) where
           found = λ k. record { bit = b; fall = omega arith };
           first = λ k m d. let y = (one-out-first k (omega arith) d).0 in omega arith;
         }
+
+  -- the same from the count of ones or zeros before the place
+  zero-other : (f : ℕ) → f ≤ ones l → (t : Bool) → differs (get_or l (place_after true (ones l - f) l) true) true ≡ t
+      → FirstFall false f l (unwrap_or (then_some t (place_after true (ones l - f) l)) n)
+  zero-other f h true d = let p = place_after true (ones l - f) l in
+      let t = other-there true l p d in
+      zero-out-found f p (zero-place-after f l) h (omega (arith, t.0)) t.1
+  zero-other f h false d = let p = place_after true (ones l - f) l in
+      zero-out-none f p (zero-place-after f l) (λ k. other-absent true l p (omega arith) d)
+
+  one-other : (f : ℕ) → ones l ≤ f → (t : Bool) → differs (get_or l (place_after false (f - ones l) l) false) false ≡ t
+      → FirstFall true f l (unwrap_or (then_some t (place_after false (f - ones l) l)) n)
+  one-other f h true d = let p = place_after false (f - ones l) l in
+      let t = other-there false l p d in
+      one-out-found f p h (one-place-after (f - ones l) l) (omega (arith, t.0)) t.1
+  one-other f h false d = let p = place_after false (f - ones l) l in
+      one-out-none f p h (one-place-after (f - ones l) l) (λ k. other-absent false l p (omega arith) d)
+
+  -- k is the difference of f and the ones w, if it is not below 0; o is the place that the code found
+  module _ (f w : ℕ) (g : w ≡ ones l) where
+    pub zero-other-first : (k o : Option ℕ) → SomeIff k (f ≤ w) (w - f) → o ≡ other_after true k l → FirstFall false f l (unwrap_or o n)
+    unfolding other_after
+    zero-other-first None o h q = rw q (zero-out-above f (let z : f ≤ w → ⊥ = h in omega arith))
+    zero-other-first (Some x) o h q =
+        let d : x ≡ ones l - f = omega (arith, h.1) in
+        let m = h.0 in
+        rw (q, d) (zero-other f (omega arith) _ refl)
+
+    pub one-other-first : (k o : Option ℕ) → SomeIff k (w ≤ f) (f - w) → o ≡ other_after false k l → FirstFall true f l (unwrap_or o n)
+    unfolding other_after
+    one-other-first None o h q = rw q (one-out-below f (let z : w ≤ f → ⊥ = h in omega arith))
+    one-other-first (Some x) o h q =
+        let d : x ≡ f - ones l = omega (arith, h.1) in
+        let m = h.0 in
+        rw (q, d) (one-other f (omega arith) _ refl)
 
 -- ---- the first place whose bit can be taken out
 module _ (a : ℕ) (l : List Bool) where

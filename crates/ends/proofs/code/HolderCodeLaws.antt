@@ -1,7 +1,7 @@
 -- Laws for the proofs of src/answering.rt.
 use Rattle.std.specs.Prelude.{◌≡◌, Result as CodeResult, Ok, Err, Bool, true, false, cond, ◌&&◌, List, [], ◌∷◌, ◌++◌, ℕ, ◌+◌, ◌≤◌, ◌<◌, length, set, take, leb, ltb, eqb}
 use Rattle.std.proofs.Math.Path.{refl}
-use Rattle.std.proofs.Common.{sym, ap, ap₂, ◌∙◌, subst, zero-add, add-one, arith, take_all, take-suc, take-suc-set, le-leb, leb-true, ltb-true, eqb-true}
+use Rattle.std.proofs.Common.{sym, ap, ap₂, ◌∙◌, subst, zero-add, add-one, arith, take_all, take_at, take-suc, take-suc-set, le-leb, leb-true, ltb-true, eqb-true}
 use Rattle.std.proofs.Math.Decide.{dec_lt}
 use Rattle.std.proofs.lemmas.Bool.{lt-leb}
 use Rattle.strings.specs.Refusals.{refusal_number}
@@ -13,6 +13,7 @@ use Rattle.strings.proofs.laws.RuleLaws.{rule-is}
 use Rattle.strings.specs.laws.Tests.{and_left, and_right}
 use Rattle.strings.specs.declared.Refusal.{Refusal}
 use Rattle.strings.specs.declared.Refusal.TheVariants.{BadString, OutOfTurn}
+use Rattle.codes.specs.Hash.{hash}
 use Rattle.codes.specs.Syndrome.{syndrome}
 use Rattle.codes.specs.laws.SyndromeLaws.{syndrome-most}
 use Rattle.messages.specs.declared.Kind.{Kind}
@@ -21,17 +22,18 @@ use Rattle.messages.specs.declared.Question.TheVariants.{AskOpen, AskHash, AskSy
 use Rattle.messages.specs.Kinds.{kind_at}
 use Rattle.messages.specs.Questions.{fields_at}
 use Rattle.messages.specs.laws.QuestionLaws.{Within, RangeWithin, fields_within}
-use Rattle.messages.specs.Answers.{Answer, size_answer, bits_answer, answer_bytes}
+use Rattle.messages.specs.Answers.{Answer, size_answer, hash_answer, syndrome_answer, bits_answer, burst_answer, answer_bytes}
 use Rattle.messages.specs.Writing.{put_front, Wrote, said_write}
 use Rattle.messages.specs.laws.WritingLaws.{put-fits, put-short}
 use Rattle.ends.specs.declared.Holder.{Holder}
 use Rattle.ends.specs.Anchors.{part}
+use Rattle.ends.specs.Runs.{answer}
 use Rattle.strings.specs.SettingLimits.{between}
 use Rattle.ends.specs.Soundness.{holder_sound, most_answers}
 use Rattle.ends.specs.HolderCall.{same_bit_count, in_turn, sends, answers_to, of_kind, holder_call, Reply}
 use Rattle.ends.specs.declared.answering.HolderOut.{HolderOut}
 use Rattle.ends.specs.HolderOutcome.{HolderSaid, said_holder, leaves_holder}
-use Rattle.ends.specs.code.HolderParts.{refused, written, opened_with, one_more, hash_reply, syndrome_reply, burst_reply, reply_outcome, Answering, Answers, Able, Ready}
+use Rattle.ends.specs.code.HolderParts.{refused, written, opened_with, one_more, Answers, Able, Ready}
 use Rattle.codes.specs.Columns.{column, syndromes}
 use Rattle.codes.specs.laws.ColumnLaws.{column-short, syndromes-at, syndromes-length}
 
@@ -94,8 +96,14 @@ module _ (b j : ℕ) (l : List Bool) (a : List ℕ) (is : take j a ≡ take j (s
   pub syndromes-all : j ≡ b → take b a ≡ syndromes b l
   syndromes-all e = let m = syndromes-length b l in ap (λ (i : ℕ). take i a) (sym e) ∙ is ∙ take_all j (syndromes b l) (omega arith)
 
+  -- the same of a list that is the front of a longer one
+  pub syndromes-filled : (behind : List ℕ) → length a ≡ b → b ≤ j → take b (a ++ behind) ≡ syndromes b l
+  syndromes-filled behind long h =
+      let m = syndromes-length b l in
+      take_at a behind b long ∙ sym (take_all j a (omega arith)) ∙ is ∙ take_all j (syndromes b l) (omega arith)
+
 -- an unopened sound state has h 0
-sound-width : (st : Holder) → holder_sound st ≡ true → st.h ≤ 32
+pub sound-width : (st : Holder) → holder_sound st ≡ true → st.h ≤ 32
 unfolding holder_sound
 sound-width st e = go st.opened e
   where
@@ -127,17 +135,6 @@ module _ (st : Holder) (x : List ℕ) (n : ℕ) where
       let e = w.ends in
       record { part = record { there = omega arith; few = omega arith }; width = sound-width st a.sound; left = a.left }
 
-  pub able-answering : Able st x n → Answering st
-  able-answering a = record { width = sound-width st a.sound; left = a.left }
-
-  pub asked-part : {start len : ℕ} → Able st x n → RangeWithin n start len → Part x start len
-  asked-part a w =
-      let r = rule-is x n a.string in
-      let f = r.few in
-      let b = r.bytes in
-      let e = w.ends in
-      record { there = omega arith; few = omega arith }
-
   module _ (reply : List ℕ) {q : Question} {s : HolderSaid} where
     pub open-asked : {h key : ℕ} → q ≡ AskOpen h key
         → s ≡ leaves_holder st reply (sends (length reply) (opened_with n h key) (answer_bytes (size_answer n)))
@@ -146,33 +143,91 @@ module _ (st : Holder) (x : List ℕ) (n : ℕ) where
         f ∙ ap (λ (k : ℕ). leaves_holder st reply (sends (length reply) (opened_with n h key) (answer_bytes (size_answer k)))) (sym (range_length x 0 n))
         ∙ ap (λ (p : Question). leaves_holder st reply (answers_to st x n (length reply) p)) (sym e)
 
-    -- the part of X's bits that a question names is the range of X's bytes that is answered for
-    range-asked : (answered : List Bool → Answer) (start len : ℕ) {l : List Bool} {q' : Question} → RangeWithin n start len → q ≡ q' → l ≡ range x start len
+    -- the part of X's bits that a question names is a range of X's bytes
+    range-asked : (answered : List Bool → Answer) (start len : ℕ) {q' : Question} → RangeWithin n start len → q ≡ q'
         → answers_to st x n (length reply) q' ≡ sends (length reply) (one_more st) (answer_bytes (answered (part (range x 0 n) start len)))
-        → s ≡ leaves_holder st reply (sends (length reply) (one_more st) (answer_bytes (answered l)))
+        → s ≡ leaves_holder st reply (sends (length reply) (one_more st) (answer_bytes (answered (range x start len))))
         → s ≡ leaves_holder st reply (answers_to st x n (length reply) q)
-    range-asked answered start len {l} w e p g f =
-        let there : l ≡ part (range x 0 n) start len = p ∙ sym (range-part x 0 n start len w.ends ∙ ap (λ (k : ℕ). range x k len) (zero-add start)) in
+    range-asked answered start len w e g f =
+        let there : range x start len ≡ part (range x 0 n) start len = sym (range-part x 0 n start len w.ends ∙ ap (λ (k : ℕ). range x k len) (zero-add start)) in
         f ∙ ap (λ (l : List Bool). leaves_holder st reply (sends (length reply) (one_more st) (answer_bytes (answered l)))) there
         ∙ ap (leaves_holder st reply) (sym g)
         ∙ ap (λ (p : Question). leaves_holder st reply (answers_to st x n (length reply) p)) (sym e)
 
-    module _ (g : Ready st x n q) {start len : ℕ} {l : List Bool} where
-      pub hash-asked : q ≡ AskHash start len → l ≡ range x start len → s ≡ reply_outcome st (one_more st) (hash_reply st l) reply
+    module _ (g : Ready st x n q) {start len : ℕ} where
+      pub hash-asked : q ≡ AskHash start len
+          → s ≡ leaves_holder st reply (sends (length reply) (one_more st) (answer_bytes (hash_answer (hash st.h st.key (range x start len)))))
           → s ≡ leaves_holder st reply (answers_to st x n (length reply) q)
-      hash-asked e p f = range-asked (hash_reply st) start len (ready-within g e) e p refl f
+      hash-asked e f = range-asked (λ l. hash_answer (hash st.h st.key l)) start len (ready-within g e) e refl f
 
-      pub syndrome-asked : q ≡ AskSyndrome start len → l ≡ range x start len → s ≡ reply_outcome st (one_more st) (syndrome_reply st l) reply
+      pub syndrome-asked : q ≡ AskSyndrome start len
+          → s ≡ leaves_holder st reply (sends (length reply) (one_more st) (answer_bytes (syndrome_answer (syndrome (range x start len)) (hash st.h st.key (range x start len)))))
           → s ≡ leaves_holder st reply (answers_to st x n (length reply) q)
-      syndrome-asked e p f = range-asked (syndrome_reply st) start len (ready-within g e) e p refl f
+      syndrome-asked e f = range-asked (λ l. syndrome_answer (syndrome l) (hash st.h st.key l)) start len (ready-within g e) e refl f
 
-      pub burst-asked : {b : ℕ} → q ≡ AskBurst start len b → l ≡ range x start len → s ≡ reply_outcome st (one_more st) (burst_reply st b l) reply
+      pub burst-asked : {b : ℕ} → q ≡ AskBurst start len b
+          → s ≡ leaves_holder st reply (sends (length reply) (one_more st) (answer_bytes (burst_answer (syndromes b (range x start len)) (hash st.h st.key (range x start len)))))
           → s ≡ leaves_holder st reply (answers_to st x n (length reply) q)
-      burst-asked {b} e p f = range-asked (burst_reply st b) start len (ready-within g e).range e p refl f
+      burst-asked {b} e f = range-asked (λ l. burst_answer (syndromes b l) (hash st.h st.key l)) start len (ready-within g e).range e refl f
 
-      pub bits-asked : q ≡ AskBits start len → l ≡ range x start len → s ≡ reply_outcome st (one_more st) (bits_answer l) reply
+      pub bits-asked : q ≡ AskBits start len
+          → s ≡ leaves_holder st reply (sends (length reply) (one_more st) (answer_bytes (bits_answer (range x start len))))
           → s ≡ leaves_holder st reply (answers_to st x n (length reply) q)
-      bits-asked e p f = range-asked bits_answer start len (ready-within g e) e p refl f
+      bits-asked e f = range-asked bits_answer start len (ready-within g e) e refl f
+
+-- ---- the replies that are written for them
+-- an answer, written at the front of the reply
+abbrev put_answer : List ℕ → Answer → Wrote
+put_answer reply a = put_front (answer_bytes a) reply
+
+pub within-as : (n : ℕ) {q q' : Question} → Within n q → q ≡ q' → Within n q'
+within-as n w e = subst (Within n) e w
+
+module _ (x : List ℕ) (n : ℕ) where
+  pub asked-part : {start len : ℕ} → string_rule x n ≡ true → RangeWithin n start len → Part x start len
+  asked-part s w =
+      let r = rule-is x n s in
+      let f = r.few in
+      let b = r.bytes in
+      let e = w.ends in
+      record { there = omega arith; few = omega arith }
+
+  module _ (h key : ℕ) (reply : List ℕ) where
+    -- the answer to a question, written at the front of the reply
+    abbrev answered : Question → Wrote
+    answered q = put_answer reply (answer h key (range x 0 n) q)
+
+    module _ {q : Question} {w : Wrote} where
+      pub size-replied : {h' key' : ℕ} → q ≡ AskOpen h' key' → w ≡ put_answer reply (size_answer n) → w ≡ answered q
+      size-replied e f = f ∙ ap (λ (k : ℕ). put_answer reply (size_answer k)) (sym (range_length x 0 n)) ∙ ap answered (sym e)
+
+      -- the part of X's bits that a question names is the range of X's bytes that is answered for
+      range-replied : (of : List Bool → Answer) (start len : ℕ) {l : List Bool} {q' : Question} → RangeWithin n start len → q ≡ q' → l ≡ range x start len
+          → answer h key (range x 0 n) q' ≡ of (part (range x 0 n) start len)
+          → w ≡ put_answer reply (of l)
+          → w ≡ answered q
+      range-replied of start len {l} r e p g f =
+          let there : l ≡ part (range x 0 n) start len = p ∙ sym (range-part x 0 n start len r.ends ∙ ap (λ (k : ℕ). range x k len) (zero-add start)) in
+          f ∙ ap (λ (l : List Bool). put_answer reply (of l)) there ∙ ap (put_answer reply) (sym g) ∙ ap answered (sym e)
+
+      module _ (within : Within n q) {start len : ℕ} {l : List Bool} where
+        pub hash-replied : q ≡ AskHash start len → l ≡ range x start len → {v : ℕ} → v ≡ hash h key l → w ≡ put_answer reply (hash_answer v) → w ≡ answered q
+        hash-replied e p k f =
+            range-replied (λ (l : List Bool). hash_answer (hash h key l)) start len (within-as n within e) e p refl
+            (f ∙ ap (λ (v : ℕ). put_answer reply (hash_answer v)) k)
+
+        pub syndrome-replied : q ≡ AskSyndrome start len → l ≡ range x start len → w ≡ put_answer reply (syndrome_answer (syndrome l) (hash h key l))
+            → w ≡ answered q
+        syndrome-replied e p f =
+            range-replied (λ (l : List Bool). syndrome_answer (syndrome l) (hash h key l)) start len (within-as n within e) e p refl f
+
+        pub bits-replied : q ≡ AskBits start len → l ≡ range x start len → w ≡ put_answer reply (bits_answer l) → w ≡ answered q
+        bits-replied e p f = range-replied bits_answer start len (within-as n within e) e p refl f
+
+        pub burst-replied : {b : ℕ} → q ≡ AskBurst start len b → l ≡ range x start len → w ≡ put_answer reply (burst_answer (syndromes b l) (hash h key l))
+            → w ≡ answered q
+        burst-replied {b} e p f =
+            range-replied (λ (l : List Bool). burst_answer (syndromes b l) (hash h key l)) start len (within-as n within e).range e p refl f
 
 -- ---- the call, test by test
 module _ (st : Holder) (x : List ℕ) (bits : ℕ) where

@@ -48,12 +48,7 @@ abbrev pub reply_outcome : (st next : Holder) → Answer → (reply : List ℕ) 
 reply_outcome st next a reply = leaves_holder st reply (sends (length reply) next (answer_bytes a))
 
 -- ---- what is required
--- the hash has a width that a number holds, and an answer is left
-pub record Answering (st : Holder) : Type 0 where
-  pub width : st.h ≤ 32
-  pub left : st.answers < most_answers
-
--- the same, and the range that is answered for lies in x
+-- the range that is answered for lies in x, the hash has a width that a number holds, and an answer is left
 pub record Answers (st : Holder) (x : List ℕ) (start len : ℕ) : Type 0 where
   pub part : Part x start len
   pub width : st.h ≤ 32

@@ -47,7 +47,7 @@ use Rattle.ends.specs.laws.SoundSteps.{fresh-sound, opening-sound, whole-sound}
 use Rattle.ends.specs.laws.Steps.{step-opening, step-whole}
 use Rattle.ends.specs.RebuilderCall.{bits_known, Taken, opening_step, whole_state, whole_step, step_of, Capacities, enough_for, awaits, rebuilder_call, starts, rebuilder_start, fresh_rebuilder, given, Started}
 use Rattle.ends.specs.declared.rebuilding.RebuilderOut.{RebuilderOut}
-use Rattle.ends.specs.declared.rebuilding.StartOut.{StartOut}
+use Rattle.ends.specs.declared.rebuilding.Started.{Started as CodeStarted}
 use Rattle.ends.specs.code.StateCode.{Usable, Counts}
 use Rattle.ends.specs.code.SoundLaws.{sound-counts}
 use Rattle.ends.specs.RebuilderOutcome.{RebuilderSaid, said_rebuilder, leaves_rebuilder, no_rebuilder, said_start, leaves_start}
@@ -465,15 +465,16 @@ module _ (st : Rebuilder) (y : List ℕ) (bits : ℕ) (msg : List ℕ) (r : Capa
     call-awaits f g = rw (e, f, g) refl
 
 -- ---- the start
-pub not-begun-out : (e : Refusal) {st : Rebuilder} → st ≡ no_rebuilder → ◌≡◌ {A = StartOut} (record { answer = Err e; state = st }) (record { answer = Err e; state = no_rebuilder })
-not-begun-out e f = (λ i. record { answer = Err e; state = f i })
+-- turned down: no state begins, which is said as the state of zeros
+pub not-begun-out : (e : Refusal) (q : List ℕ) {o : CodeResult CodeStarted Refusal} → o ≡ Err e → said_start o q ≡ record { answer = refusal (refusal_number e); state = no_rebuilder; question = q }
+not-begun-out e q f = ap (λ (z : CodeResult CodeStarted Refusal). said_start z q) f
 
 module _ (S : Settings) (y : List ℕ) (bits : ℕ) (q : List ℕ) where
   abbrev started : Result Started
   started = rebuilder_start S y bits (length q)
 
-  pub start-refused : (e : Refusal) {o : StartOut} → o ≡ record { answer = Err e; state = no_rebuilder } → started ≡ refusal (refusal_number e) → said_start o q ≡ leaves_start q started
-  start-refused e f g = ap (λ (z : StartOut). said_start z q) f ∙ ap (leaves_start q) (sym g)
+  pub start-refused : (e : Refusal) {o : CodeResult CodeStarted Refusal} → o ≡ Err e → started ≡ refusal (refusal_number e) → said_start o q ≡ leaves_start q started
+  start-refused e f g = not-begun-out e q f ∙ ap (leaves_start q) (sym g)
 
   pub start-bad-setting : within_limits S ≡ false → started ≡ refusal (refusal_number BadSetting)
   unfolding rebuilder_start
@@ -508,7 +509,7 @@ module _ (S : Settings) (y : List ℕ) (bits : ℕ) (q : List ℕ) where
           pub start_fits : {x : Refusal} → w ≡ Err x → ⊥
           start_fits e = let f = opening-fits.0 in let n : ◌≡◌ {A = ℕ} 0 1 = cc in omega arith
 
-          pub start-begun : {size : ℕ} → w ≡ Ok size → {st : Rebuilder} → st ≡ fresh_rebuilder S bits → said_start (record { answer = Ok size; state = st }) q' ≡ leaves_start q started
+          pub start-begun : {size : ℕ} → w ≡ Ok size → {st : Rebuilder} → st ≡ fresh_rebuilder S bits → said_start (Ok (record { size = size; state = st })) q' ≡ leaves_start q started
           start-begun {size} e {st} f =
               let g = opening-fits.0 in
               let n : size ≡ length (question_bytes (AskOpen S.h S.key)) = cc in

@@ -24,6 +24,7 @@ use Rattle.messages.specs.laws.WritingLaws.{wrote-is}
 use Rattle.ends.specs.declared.How.{How}
 use Rattle.ends.specs.declared.How.TheVariants.{ByHash, ByAnchor, ByBits, ByBurst}
 use Rattle.ends.specs.declared.Piece.{Piece}
+use Rattle.ends.specs.declared.Row.{Row}
 use Rattle.ends.specs.declared.Rebuilder.{Rebuilder}
 use Rattle.ends.specs.declared.SheetChange.{SheetChange}
 use Rattle.ends.specs.declared.SheetChange.TheVariants.{NoRow, AddRow}
@@ -174,6 +175,11 @@ module _ (st : Rebuilder) (size capacity : ℕ) (k : Acting st size capacity) wh
   unfolding restaged popped
   settled-counts = let q = counts 1 (lit≤ tt) in record { answered = q.answered; counted = q.counted; used = q.used }
 
+  -- neither settling nor splitting uses a row of itself
+  pub settled-rows : (restaged (popped st)).rows ≡ st.rows
+  unfolding restaged popped
+  settled-rows = refl
+
   pub retried-counts : Counts (retried st) size 0
   unfolding retried
   retried-counts = let q = counts 0 (lit≤ tt) in record { answered = q.answered; counted = q.counted; used = q.used }
@@ -215,6 +221,9 @@ module _ (st : Rebuilder) (size capacity : ℕ) (k : Acting st size capacity) wh
         let m = moved-effect st.settings st refl k.array k.some few (splits s r []) in
         record { answered = rw m.answered q.answered; counted = rw m.counted q.counted; used = rw m.rows q.used }
 
+    pub split-rows : (split_at st s r).rows ≡ st.rows
+    split-rows = (moved-effect st.settings st refl k.array k.some few (splits s r [])).rows
+
     pub split-start : (top st).x + s < 4294967296
     split-start = let f = fit in let fr = f.inside in let a = topped.in_x in let n = framed.size in omega arith
 
@@ -244,6 +253,11 @@ pub split-out : (st : Rebuilder) (size s r : ℕ) {t : Piece} {one next : Rebuil
     → OutIs o (tallied (split_at st s r) size 1) (AddRow st.rows (row ((top st).x + s) st.settings.m ByAnchor)) q q'
 split-out st size s r a b c n o =
     out-to (c ∙ ap (λ (z : Rebuilder). tallied z size 1) b) (ap₂ (λ (z : Piece) (i : ℕ). AddRow st.rows (record { start = z.x + s; len = st.settings.m; how = i })) a n) o
+
+-- next uses as many rows as st
+pub added-out : (st : Rebuilder) (size : ℕ) {next to : Rebuilder} {line l : Row} {r : RebuilderOut} {q q' : List ℕ}
+    → next ≡ to → to.rows ≡ st.rows → line ≡ l → OutIs r (tallied next size 1) (AddRow next.rows line) q q' → OutIs r (tallied to size 1) (AddRow st.rows l) q q'
+added-out st size e u f o = out-to (ap (λ (z : Rebuilder). tallied z size 1) e) (ap₂ (λ (i : ℕ) (z : Row). AddRow i z) (ap (λ (z : Rebuilder). z.rows) e ∙ u) f) o
 
 -- ---- from the parts to the whole
 pub out-said : (st : Rebuilder) (k : Step) (s : List ℕ) {r : RebuilderOut} {s' q q' : List ℕ} → OutIs r k.state k.sheet q q' → s' ≡ string_after s k.string → said_rebuilder r s' q' ≡ leaves_rebuilder st s q (step_taken k)

@@ -1,8 +1,9 @@
 -- What the functions of src/sound.rt require, and laws for their proofs. The test itself is defined in Soundness.
-use Rattle.std.specs.Prelude.{◌≡◌, Bool, true, false, ◌&&◌, List, [], ◌∷◌, get_or}
+use Rattle.std.specs.Prelude.{◌≡◌, Bool, true, false, ◌&&◌, List, [], ◌∷◌, get_or, length, take, drop, ◌++◌, reverse}
 use Rattle.std.proofs.Math.Path.{refl}
 use Rattle.std.proofs.Common.{sym, ap, ◌∙◌, div-le_self, mul-le-mul, add-one}
-use Prim.Native.Nat.{ℕ, suc, ◌+◌, ◌-◌, ◌*◌, ◌/◌, ◌≤◌, ◌<◌}
+use Rattle.std.proofs.lemmas.List.{get_or-take, get_or-drop, length-take, length-drop, take_more, reverse-append, length-reverse}
+use Prim.Native.Nat.{ℕ, zero, suc, ◌+◌, ◌-◌, ◌*◌, ◌/◌, ◌≤◌, ◌<◌}
 use native.Mathlib.Omega.{arith}
 use borrow.Author.Tests.{lt-leb, le-leb}
 use Rattle.ends.specs.declared.Piece.{Piece}
@@ -51,12 +52,54 @@ module _ (l : List Piece) (i : ℕ) where
   unfolding blank_from
   blank-all h = let n : 32 - i ≡ 0 = omega arith in rw n refl
 
+-- one turn of a loop over the entries from index w on
+pub blank-turn : (l : List Piece) (w k : ℕ) → length l ≡ 32 → k < length (take (length l - w) (drop w l)) → (b t : Bool)
+    → b ≡ is_blank (get_or (take (length l - w) (drop w l)) k no_piece)
+    → ((t && b) && blank_from l (32 - (w + (k + 1))) (w + (k + 1))) ≡ (t && blank_from l (32 - (w + k)) (w + k))
+unfolding blank_from
+blank-turn l w k z h b true e =
+    let d = length-drop w l in
+    let s = length-take (length l - w) (drop w l) in
+    let n : 32 - (w + k) ≡ suc (32 - (w + (k + 1))) = omega arith in
+    let i : suc (w + k) ≡ w + (k + 1) = omega arith in
+    rw (n, e, get_or-take (length l - w) (drop w l) k no_piece (omega arith), get_or-drop w l k no_piece, i) refl
+blank-turn l w k z h b false e = refl
+
+pub blank-done : (l : List Piece) (w k : ℕ) → length l ≡ 32 → length (take (length l - w) (drop w l)) ≤ k
+    → (t : Bool) → (t && blank_from l (32 - (w + k)) (w + k)) ≡ t
+blank-done l w k z h true = let d = length-drop w l in let s = length-take (length l - w) (drop w l) in blank-all l (w + k) (omega arith)
+blank-done l w k z h false = refl
+
 pub bound-next : (b i : ℕ) → b ≡ bound i → 5 * b / 8 ≡ bound (i + 1)
 bound-next b i e = rw (add-one, e) refl
 
 -- the pieces from index i down to 0
 pub held_next : (l : List Piece) (i : ℕ) → 0 < i → held i l ≡ get_or l (i - 1) no_piece ∷ held (i - 1) l
 held_next l i h = let n : i ≡ suc (i - 1) = omega arith in ap (λ (k : ℕ). held k l) n
+
+-- the waiting pieces are the first w entries, the last of them leftmost
+pub held-is : (w : ℕ) (l : List Piece) → w ≤ length l → held w l ≡ reverse (take w l)
+held-is zero l h = refl
+held-is (suc w) l h =
+    let t : take (suc w) l ≡ take w l ++ get_or l w no_piece ∷ [] = rw (← add-one) (take_more l w no_piece (omega arith)) in
+    ap (λ (r : List Piece). get_or l w no_piece ∷ r) (held-is w l (omega arith))
+    ∙ sym (ap reverse t ∙ reverse-append (take w l) (get_or l w no_piece ∷ []))
+
+-- one turn of a loop over pieces from the last on: of l the last is pc, and r are the others
+module _ (n e x y : ℕ) (l r : List Piece) (pc : Piece) (is : l ≡ r ++ pc ∷ []) (b : Bool) (fits : b ≡ piece_fits n e x y (length r) pc) where
+  pub order-fits : b ≡ true → (x' y' : ℕ) → x' ≡ pc.x + pc.p → y' ≡ pc.y + pc.q
+      → in_order n e x y (reverse l) ≡ in_order n e x' y' (reverse r)
+  unfolding in_order
+  order-fits f x' y' a c = rw (is, reverse-append r (pc ∷ []), length-reverse r, ← fits, f, a, c) refl
+
+  pub order-fails : b ≡ false → in_order n e x y (reverse l) ≡ false
+  unfolding in_order
+  order-fails f = rw (is, reverse-append r (pc ∷ []), length-reverse r, ← fits, f) refl
+
+pub order-none : (n e x y : ℕ) (l : List Piece) → length l ≡ 0 → in_order n e x y (reverse l) ≡ true
+unfolding in_order
+order-none n e x y [] h = refl
+order-none n e x y (pc ∷ l) h = absurd (omega arith)
 
 module _ (n e x y : ℕ) (l : List Piece) (i : ℕ) where
   pub order-next : 0 < i → (b : Bool) → b ≡ piece_fits n e x y (i - 1) (get_or l (i - 1) no_piece) → b ≡ true → (x' y' : ℕ)
@@ -82,6 +125,13 @@ module _ (a b m : ℕ) (l : List Piece) (i : ℕ) where
   pub work-turn : 0 < i → (p d sum total : ℕ) → p ≡ (get_or l (i - 1) no_piece).p → d ≡ m → sum + work_left a b m (held i l) ≡ total
       → sum + (a * (p / d) + b) + work_left a b m (held (i - 1) l) ≡ total
   work-turn h p d sum total e f g = let w = work-next h in rw (e, f) (omega arith)
+
+  -- one turn of a loop over the first w pieces from index 0 on
+  pub work-more : (w : ℕ) → i < length (take w l) → (p d sum : ℕ) → p ≡ (get_or (take w l) i no_piece).p → d ≡ m
+      → sum ≡ work_left a b m (held i l)
+      → sum + (a * (p / d) + b) ≡ work_left a b m (held (i + 1) l)
+  unfolding work_left
+  work-more w h p d sum e f g = let k = length-take w l in rw (e, f, g, get_or-take w l i no_piece (omega arith), add-one) (omega arith)
 
   pub work_none : i ≤ 0 → work_left a b m (held i l) ≡ 0
   unfolding work_left

@@ -7,13 +7,15 @@ use Prim.Native.Nat.{ℕ, suc, ◌+◌, ◌-◌, ◌^◌, ◌≤◌, ◌<◌}
 use native.Mathlib.Omega.{arith}
 use Rattle.std.proofs.Math.ListN.{take}
 use Rattle.std.proofs.lemmas.List.Edits.{sets}
+use Rattle.std.proofs.lemmas.List.Recursion.{is_sum_by}
+use Rattle.std.specs.List.{sum_by}
 use Rattle.std.proofs.lemmas.Bool.{lt-leb}
 use Rattle.strings.specs.Bits.{max_bits}
 use Rattle.strings.specs.SettingLimits.{hash_limits, key_limits}
 use Rattle.strings.specs.Refusals.{refusal_number}
 use Rattle.strings.specs.Results.{Result, refusal, value, unless, and_then, said}
 use Rattle.strings.specs.laws.StoreLaws.{sets-append}
-use Rattle.strings.specs.laws.ResultLaws.{no_value, value-is}
+use Rattle.strings.specs.laws.ResultLaws.{no_value, value-is, then-passed, unless-passed}
 use Rattle.strings.specs.declared.Refusal.{Refusal}
 use Rattle.strings.specs.declared.Refusal.TheVariants.{TrailingBytes, OutOfRange, BadBurst}
 use Rattle.codes.specs.Columns.{column_length, column_limits}
@@ -21,14 +23,19 @@ use Rattle.messages.specs.declared.Question.{Question}
 use Rattle.messages.specs.declared.Question.TheVariants.{AskOpen, AskBurst}
 use Rattle.messages.specs.Numbers.{number, number_at, two_at, three_at, all_numbers, numbers_at}
 use Rattle.messages.specs.Questions.{opening_at, range_question, burst_range_at}
-use Rattle.messages.specs.Answers.{Answer, size_answer, hash_answer, syndrome_answer, burst_answer, size_at, hash_at, syndrome_at, within_columns, burst_at, burst_syndromes, BurstAnswered}
-use Rattle.messages.specs.laws.NumberLaws.{size-most}
+use Rattle.messages.specs.Answers.{Answer, size_answer, hash_answer, syndrome_answer, burst_answer, size_at, hash_at, syndrome_at, within_columns, burst_at, the_numbers, burst_syndromes, BurstAnswered}
+use Rattle.messages.specs.laws.NumberLaws.{size-most, numbers-most}
 use Rattle.messages.specs.laws.AnswerLaws.{burst-stands, burst-is}
 
 -- what a reader that stands at position at now says that it read, a number or numbers
 abbrev pub said_next : CodeResult ℕ Refusal → ℕ → Result (ℕ × ℕ)
 said_next (Ok v) at = value (v, at)
 said_next (Err e) at = refusal (refusal_number e)
+
+-- what it says of a burst's answer, of which it read the hash behind the syndromes l
+abbrev pub said_burst : CodeResult ℕ Refusal → List ℕ → Result Answer
+said_burst (Ok v) l = value (burst_answer l v)
+said_burst (Err e) l = refusal (refusal_number e)
 
 abbrev pub said_numbers : CodeResult (Unit {0}) Refusal → List ℕ → ℕ → Result (List ℕ × ℕ)
 said_numbers (Ok _) l at = value (l, at)
@@ -48,6 +55,10 @@ opening_of version h key =
     unless (hash_limits h) OutOfRange (
     unless (key_limits key) OutOfRange (
     value (AskOpen h key))))
+
+-- what a call at start and len may give, as post says, is the question of ask
+abbrev pub Asks : (ℕ → ℕ → Question → Type 0) → (ℕ → ℕ → Question) → Type 0
+Asks post ask = (start len : ℕ) (q : Question) → start < 2 ^ 32 → len < 2 ^ 32 → post start len q → q ≡ ask start len
 
 abbrev pub range_of : (ℕ → ℕ → Question) → ℕ → ℕ → ℕ → Result Question
 range_of ask n start len =
@@ -371,31 +382,31 @@ burst-filled b s w (Ok v) (Ok u) list at end e f =
     let g : at ≡ r.at = ap (λ (p : ℕ × ℕ). p.1) (value-is (e ∙ r.kind)) in
     ap (λ (p : List ℕ × ℕ). p.0) (value-is (f ∙ ap (numbers_at b s) g ∙ r.read)) ∙ burst-is w.kind w.len b w.h s w.syndromes w.hash w.read
 
--- a burst's answer, of which the code has read the syndromes l and the hash v behind the kind
-module _ (len b h : ℕ) (s : List ℕ) (at n : ℕ) (kind : number_at s 0 ≡ value (n, at)) where
-  pub columns-none : (k : ℕ) → numbers_at b s at ≡ refusal k → burst_at len b h s at ≡ refusal k
-  unfolding burst_at
-  columns-none k e = rw e refl
+-- a burst's answer: the syndromes beside which a hash was read are those that stand at position at
+pub burst-stood : (len b h : ℕ) (s : List ℕ) (at : ℕ) (r : CodeResult ℕ Refusal) (l : List ℕ) → said_burst r l ≡ burst_at len b h s at → said_burst r (the_numbers (numbers_at b s at)) ≡ burst_at len b h s at
+burst-stood len b h s at (Err e) l is = is
+burst-stood len b h s at (Ok v) l is =
+    let a = burst_answer l v in
+    let (p, e, is₁) = then-passed (numbers_at b s at) _ a (sym (is ∙ columns_read s at len b h)) in
+    let (x, f, is₂) = then-passed (last_at s p.1) _ a is₁ in
+    let (t, is₃) = unless-passed (within_columns b len 0 p.0) OutOfRange _ a is₂ in
+    let (u, is₄) = unless-passed (ltb x (2 ^ h)) OutOfRange _ a is₃ in
+    let g = value-is is₄ in
+    let q : p.0 ≡ l = cc in
+    ap (λ (m : List ℕ). value (burst_answer m v)) (ap the_numbers e ∙ q) ∙ is
 
-  module _ (l : List ℕ) (next : ℕ) (e : numbers_at b s at ≡ value (l, next)) where
-    pub hash-none : (k : ℕ) → last_at s next ≡ refusal k → burst_at len b h s at ≡ refusal k
-    hash-none k f = columns_read s at len b h ∙ rw (e, f) refl
+-- they are those of the message, once its kind is known to end at position at
+pub syndromes-behind : (b : ℕ) (s : List ℕ) {n at : ℕ} → number_at s 0 ≡ value (n, at) → burst_syndromes b s ≡ the_numbers (numbers_at b s at)
+unfolding burst_syndromes
+syndromes-behind b s e = rw e refl
 
-    pub columns-some : (v : ℕ) → last_at s next ≡ value v
-        → burst_at len b h s at ≡ unless (within_columns b len 0 l) OutOfRange (unless (ltb v (2 ^ h)) OutOfRange (value (burst_answer (burst_syndromes b s) v)))
-    unfolding burst_syndromes
-    columns-some v f = columns_read s at len b h ∙ rw (e, f, kind, e) refl
+-- ---- the sizes of numbers, added up
+pub sizes-are : (l : List ℕ) → sum_by (λ v. length (number v)) l ≡ length (all_numbers l)
+unfolding all_numbers
+sizes-are l = sym (is_sum_by (λ (m : List ℕ). length (all_numbers m)) (λ v. length (number v)) refl (λ v m. length-append (number v) (all_numbers m)) l)
 
-    -- as the code tests them: t says whether they are within their columns' lengths, u whether v is a hash
-    module _ (v : ℕ) (f : last_at s next ≡ value v) {t : Bool} (w : t ≡ within_columns (length l) len 0 l) (many : length l ≡ b) where
-      columns-tested : burst_at len b h s at ≡ unless t OutOfRange (unless (ltb v (2 ^ h)) OutOfRange (value (burst_answer (burst_syndromes b s) v)))
-      columns-tested = columns-some v f ∙ rw (w, many) refl
-
-      pub columns-outside : t ≡ false → refusal (refusal_number OutOfRange) ≡ burst_at len b h s at
-      columns-outside p = sym (columns-tested ∙ rw p refl)
-
-      pub columns-hash : {u : Bool} → t ≡ true → u ≡ ltb v (2 ^ h) → burst_at len b h s at ≡ unless u OutOfRange (value (burst_answer (burst_syndromes b s) v))
-      columns-hash p q = columns-tested ∙ rw (p, q) refl
+pub sizes-fit : (l : List ℕ) → length l ≤ 32 → sum_by (λ v. length (number v)) l < 2 ^ 64
+sizes-fit l h = let e = sizes-are l in let m = numbers-most l in omega arith
 
 -- what the loops over numbers cite
 pub ruleset size_turns = (size-most, from-size, from-none)

@@ -1,28 +1,16 @@
--- `codes::copy_column` meets its contract: whole bytes, and the bits that are left behind them. Assumes nothing.
-use mathlib.Core.Path.{ap, ◌∙◌}
-use Prim.Native.Nat.{◌*◌, ◌/◌, ◌≤◌}
-use native.Mathlib.Omega.{arith}
-use lib.ListN.{length}
-use Rattle.strings.proofs.laws.WriteLaws.{length-write_bits}
-use Rattle.codes.specs.laws.ColumnByteLaws.{bytes-within, column-left, column-joined}
+-- `codes::copy_column` meets its contract: a column is bits at equal distances. Assumes nothing.
+use mathlib.Core.Path.{sym, ap, ◌∙◌}
+use Rattle.strings.specs.Bits.{write_bits}
+use Rattle.codes.specs.laws.ColumnByteLaws.{column-part}
+use Rattle.codes.specs.laws.StrideLaws.{column_within, column_strides}
 use Rattle.codes.proofs.columns.copy_column.Goals as goal
 
-pub copy_singly-requires-clause-part : goal.copy_singly-requires-clause-part
-copy_singly-requires-clause-part c = let col = c.args.c in
+pub invariant_of-all : goal.invariant_of-all
+invariant_of-all c = let col = c.args.c in
     let s = col.piece in
-    let long = c.column_length-bytes in
-    let within = bytes-within col.b col.j s.len long.result col.inside long.ensures in
-    let there = c.requires.there in
-    let few = c.requires.few in
-    let pos : 1 ≤ col.b = (let h = col.least in omega arith) in
-    let left = column-left s.bytes.now s.start s.len col.b pos col.j (8 * (long.result / 8)) within in
-    let n = ap length c.copy_groups.ensures ∙ length-write_bits c.args.to.now 0 _ in record { there = omega arith; few = omega arith }
+    record { part = column-part s.bytes.now s.start s.len col.b col.j _ s.part (column_within col.b col.j s.len _ col.inside c.len.ensures) }
 
 pub returns : goal.returns
 returns c = let col = c.args.c in
     let s = col.piece in
-    let long = c.column_length-bytes in
-    let within = bytes-within col.b col.j s.len long.result col.inside long.ensures in
-    let pos : 1 ≤ col.b = (let h = col.least in omega arith) in
-    column-joined s.bytes.now s.start s.len col.b pos col.j (8 * (long.result / 8)) c.args.to.now _ _ within
-    c.copy_groups.ensures c.copy_singly.ensures
+    c.copy.ensures ∙ ap (write_bits c.args.to.now 0) (sym (column_strides s.bytes.now s.start s.len col.b col.j _ col.inside c.len.ensures))

@@ -17,11 +17,11 @@ returns-in_err-e c = let run = c.args.run in
     let held = (column-held s.bytes.now s.start s.len run.b c.args.j run.least _ c.requires.part _ c.copy_column.ensures).1 in
     let pos : 1 ≤ run.b = (let h = run.least in omega arith) in
     subst (λ (r : Option ColumnRepair). ColumnFound run.b run.n c.args.a (bits s) c.args.j (is_found r) (place_found r) (bit_found r)) (sym c.from_residual.ensures)
-    (searched-nothing s.bytes.now s.start s.len run.n run.b c.args.j c.args.a pos c.requires.j_lt_b run.apart _ c.column_length-len.result c.column_length.result c.column_length-len.ensures c.column_length.ensures held c.find_repair.result c.find_repair.ensures.len_value c.in_err-e.was)
+    (searched-nothing s.bytes.now s.start s.len run.n run.b c.args.j c.args.a pos c.requires.j_lt_b run.apart _ c.len.result c.column_length.result c.len.ensures c.column_length.ensures held c.find_repair.result c.find_repair.ensures.len_value c.in_err-e.was)
 
 pub returns : goal.returns
 returns c = let run = c.args.run in
     let s = run.piece in
     let held = (column-held s.bytes.now s.start s.len run.b c.args.j run.least _ c.requires.part _ c.copy_column.ensures).1 in
     let pos : 1 ≤ run.b = (let h = run.least in omega arith) in
-    searched-found s.bytes.now s.start s.len run.n run.b c.args.j c.args.a pos c.requires.j_lt_b run.apart _ c.column_length-len.result c.column_length.result c.column_length-len.ensures c.column_length.ensures held c.find_repair.result c.find_repair.ensures.len_value c.find_repair.ensures.repair_fits c.in_ok-e.e c.in_ok-e.was _ c.column_repair.result.place c.column_repair.result.bit c.column_repair.ensures
+    searched-found s.bytes.now s.start s.len run.n run.b c.args.j c.args.a pos c.requires.j_lt_b run.apart _ c.len.result c.column_length.result c.len.ensures c.column_length.ensures held c.find_repair.result c.find_repair.ensures.len_value c.find_repair.ensures.repair_fits c.in_ok-e.e c.in_ok-e.was _ c.column_repair.result.place c.column_repair.result.bit c.column_repair.ensures

@@ -7,8 +7,8 @@ use Rattle.codes.specs.laws.RepairLaws.{repair-length}
 use Rattle.codes.specs.laws.EntryLaws.{repair-range-is}
 use Rattle.codes.proofs.entries.repair.Goals as goal
 
-pub pack_edited-requires-clause-len_len : goal.pack_edited-requires-clause-len_len
-pack_edited-requires-clause-len_len c = let args = c.args in
+pub pack-requires-clause-len_len : goal.pack-requires-clause-len_len
+pack-requires-clause-len_len c = let args = c.args in
     let apart = repair-range-is args.bits args.n args.a (sym c.keeps_repair_range.ensures ∙ c.if-not-keeps_repair_range.false) in
     let whole = range args.s.now 0 args.bits in
-    repair-length args.n args.a args.bits whole _ (range_length _ _ _) apart.one (found-is c.find_repair.result whole _ c.find_repair.ensures.len_value c.in-Some.e c.in-Some.is)
+    repair-length args.n args.a args.bits whole _ (range_length _ _ _) apart.one (found-is c.find_repair.result whole _ c.find_repair.ensures.len_value c.in-Some.edit c.in-Some.is)

@@ -1,23 +1,17 @@
 -- `codes::list_syndrome` meets its contract. Assumes nothing.
 use native.Mathlib.Omega.{arith}
 use Rattle.codes.specs.laws.ListingLaws.{list-range-out, list-range-in, list-out-of-range, list-too-short, list-stored}
-use Rattle.codes.specs.laws.LinkingLaws.{linked-none, counted_none, count_most}
+use Rattle.codes.specs.laws.LinkingLaws.{count_most}
 use Rattle.codes.proofs.lists.list_syndrome.Goals as goal
-
-pub link_lows-requires-clause-linked : goal.link_lows-requires-clause-linked
-link_lows-requires-clause-linked c = linked-none c.args.n _ c.power-size.ensures (omega arith)
-
-pub link_lows-requires-clause-counted : goal.link_lows-requires-clause-counted
-link_lows-requires-clause-counted c = counted_none c.args.n _ c.power-size.ensures (omega arith)
 
 pub returns-then-n-gt-MAX_LIST_BITS : goal.returns-then-n-gt-MAX_LIST_BITS
 returns-then-n-gt-MAX_LIST_BITS c = let args = c.args in list-out-of-range args.n args.a args.out.now (list-range-out args.n args.a c.then-n-gt-MAX_LIST_BITS.either)
 
 pub returns-then-out-count : goal.returns-then-out-count
-returns-then-out-count c = let args = c.args in let e = c.count_listing-count.ensures in let l = c.if-out-count.true in list-too-short args.n args.a args.out.now (list-range-in args.n args.a c.if-n-gt-MAX_LIST_BITS.false c.if-n-a.false) (omega arith)
+returns-then-out-count c = let args = c.args in let e = rw c.new-links.ensures at c.count-count.ensures in let l = c.if-out-count.true in list-too-short args.n args.a args.out.now (list-range-in args.n args.a c.if-n-gt-MAX_LIST_BITS.false c.if-n-a.false) (omega arith)
 
 pub overflow_cast-result : goal.overflow_cast-result
-overflow_cast-result c = let e = c.count_listing-count.ensures in let m = count_most c.args.n c.args.a c.if-n-gt-MAX_LIST_BITS.false in record { fits = omega arith }
+overflow_cast-result c = let e = rw c.new-links.ensures at c.count-count.ensures in let m = count_most c.args.n c.args.a c.if-n-gt-MAX_LIST_BITS.false in record { fits = omega arith }
 
 pub returns : goal.returns
-returns c = let args = c.args in list-stored args.n args.a args.out.now c.count_listing-count.result _ (list-range-in args.n args.a c.if-n-gt-MAX_LIST_BITS.false c.if-n-a.false) c.count_listing-count.ensures c.if-out-count.false c.write_listing.ensures
+returns c = let args = c.args in list-stored args.n args.a args.out.now c.count-count.result _ (list-range-in args.n args.a c.if-n-gt-MAX_LIST_BITS.false c.if-n-a.false) (rw c.new-links.ensures at c.count-count.ensures) c.if-out-count.false (rw c.new-links.ensures at c.write.ensures)

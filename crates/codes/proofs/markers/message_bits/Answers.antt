@@ -1,18 +1,14 @@
+-- `codes::message_bits` meets its contract. Assumes nothing.
 use native.Mathlib.Omega.{arith}
-use Rattle.codes.specs.laws.PowerLaws.{power-one, power-double}
-use Rattle.codes.specs.laws.MarkerBlockLaws.{powers-turn, powers-first, powers-last, powers-most}
+use Rattle.codes.specs.laws.MarkerBlockLaws.{message-bits-log}
+use Rattle.codes.specs.laws.MarkerEntryLaws.{message-bits-most}
 use Rattle.codes.proofs.markers.message_bits.Goals as goal
 
-pub loop-p-init : goal.loop-p-init
-loop-p-init c = let e = powers-first c.args.w.n in (omega arith, power-one, omega arith)
-
-pub loop-p-preserved : goal.loop-p-preserved
-loop-p-preserved c = let l = c.loop-p in
-    let e = powers-turn c.args.w.n l.p l.invariant.1 c.loop-p-test.true in
-    (omega arith, power-double l.p l.invariant.1, omega arith)
+pub returns-then-n-eq0 : goal.returns-then-n-eq0
+returns-then-n-eq0 c = let m = message-bits-most c.args.n in let e = c.if-n-eq0.true in omega arith
 
 pub overflow_sub-result : goal.overflow_sub-result
-overflow_sub-result c = let m = powers-most c.args.w.n in let e = c.loop-p.invariant.2 in omega arith
+overflow_sub-result c = let t = c.ilog2 in let m = message-bits-log c.args.n t.result t.ensures.power_le t.ensures.next_power_gt in omega (arith, m.0)
 
 pub returns : goal.returns
-returns c = let l = c.loop-p in powers-last c.args.w.n l.p l.t c.loop-p-test.false l.invariant.2
+returns c = let t = c.ilog2 in (message-bits-log c.args.n t.result t.ensures.power_le t.ensures.next_power_gt).1

@@ -14,8 +14,8 @@ use Rattle.codes.specs.laws.MarkerEntryLaws.{front-range}
 use Rattle.codes.proofs.markers.read_edited.Goals as goal
 
 pub returns : goal.returns
-returns c = let packed = c.pack_edited.ensures in
+returns c = let packed = c.pack.ensures in
     let n = c.args.w.n in
-    let word = edited c.args.e (bits c.args.s) in
+    let word = edited c.args.e.edit (bits c.args.e.piece) in
     let same = ap (λ (x : List ℕ). range x 0 n) packed ∙ front-range word _ n c.requires.bits_len in
     c.read_word.ensures ∙ ap (λ (w : List Bool). repair_left c.args.out.now (value (built_message n (some w)))) same

@@ -17,8 +17,8 @@ pub read_edited-requires-clause-bits_len : goal.read_edited-requires-clause-bits
 read_edited-requires-clause-bits_len c = let found = c.find_repair in
     let args = c.args in
     let l = bits args.s in
-    let is = found-is found.result l _ found.ensures.len_value c.in-Some.e c.in-Some.is in
-    repair-length args.w.n args.a args.s.len l (edited c.in-Some.e l) (range_length _ _ _) c.requires.one_apart is
+    let is = found-is found.result l _ found.ensures.len_value c.in-Some.edit c.in-Some.is in
+    repair-length args.w.n args.a args.s.len l (edited c.in-Some.edit l) (range_length _ _ _) c.requires.one_apart is
 
 pub returns-in-None : goal.returns-in-None
 returns-in-None c = let found = c.find_repair in
@@ -32,6 +32,6 @@ pub returns-in-Some : goal.returns-in-Some
 returns-in-Some c = let found = c.find_repair in
     let args = c.args in
     let l = bits args.s in
-    let is = found-is found.result l _ found.ensures.len_value c.in-Some.e c.in-Some.is in
-    let reads = read-other args.w.n args.a l args.s.len (range_length _ _ _) c.requires.one_apart (some (edited c.in-Some.e l)) is in
+    let is = found-is found.result l _ found.ensures.len_value c.in-Some.edit c.in-Some.is in
+    let reads = read-other args.w.n args.a l args.s.len (range_length _ _ _) c.requires.one_apart (some (edited c.in-Some.edit l)) is in
     c.read_edited.ensures ∙ sym (ap (λ (o : Option (List Bool)). repair_left args.out.now (value o)) reads)

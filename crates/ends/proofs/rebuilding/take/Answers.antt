@@ -1,5 +1,5 @@
 use native.Mathlib.Omega.{arith}
-use Rattle.ends.specs.code.RebuilderCallLaws.{heard-size, heard-hash, heard-syndrome, heard-burst, heard-bits, cols-few, burst-answered, burst-said, bits-long, bits-said, enough-for, enough-is, enough-bits, whole-small}
+use Rattle.ends.specs.code.RebuilderCallLaws.{heard-size, heard-hash, heard-syndrome, heard-burst, heard-bits, burst-cols, cols-few, burst-answered, burst-said, bits-long, bits-said, enough-for, enough-is, enough-bits, whole-small}
 use Rattle.ends.proofs.rebuilding.take.Goals as goal
 
 pub take_size-requires : goal.take_size-requires
@@ -32,7 +32,8 @@ take_bits-requires c = let e = c.in-IsBits.is in
     record { bits_due = (heard-bits c.args.st _ _ _ _ c.requires.due _ e _ r.1).0; lending = record { copy = c.requires.ybits_bound; text = enough-bits _ _ r.0 }; st_bound = bits-long c.args.st _ _ _ _ c.requires.due _ e }
 
 pub burst_syndromes-requires : goal.burst_syndromes-requires
-burst_syndromes-requires c = record { b_bound = cols-few c.args.st _ _ _ _ c.requires.due; burst_answered = burst-answered c.args.st _ _ _ _ c.requires.due _ c.in-IsBurst.is }
+burst_syndromes-requires c =
+    rw c.columns.ensures (record { b_bound = cols-few c.args.st _ _ _ _ c.requires.due; burst_answered = burst-answered c.args.st _ _ _ _ c.requires.due _ c.in-IsBurst.is })
 
 pub new-requires-in-IsBurst : goal.new-requires-in-IsBurst
 new-requires-in-IsBurst c = record { acting = (heard-burst c.args.st _ _ _ _ c.requires.due _ c.in-IsBurst.is 8 (omega arith)).0; copy = c.requires.ybits_bound }
@@ -40,7 +41,7 @@ new-requires-in-IsBurst c = record { acting = (heard-burst c.args.st _ _ _ _ c.r
 pub take_burst-requires : goal.take_burst-requires
 take_burst-requires c = let e = c.in-IsBurst.is in
     let r = enough-is c.args.st _ _ (enough-for c.args.st _ _ _ _ c.requires.due _ c.requires.by_index.1 e) in
-    record { question_room = r.1; string_room = rw c.new-in-IsBurst.ensures.st (enough-bits _ _ r.0); burst_due = rw c.new-in-IsBurst.ensures.st (heard-burst c.args.st _ _ _ _ c.requires.due _ e _ r.1).1 }
+    record { question_room = r.1; string_room = rw c.new-in-IsBurst.ensures.st (enough-bits _ _ r.0); burst_due = rw c.new-in-IsBurst.ensures.st (heard-burst c.args.st _ _ _ _ c.requires.due _ e _ r.1).1; enough = (let b = burst-cols c.args.st _ _ _ _ c.requires.due _ e in let f = cols-few c.args.st _ _ _ _ c.requires.due in rw c.new-in-IsBurst.ensures.st (omega arith)) }
 
 pub returns-in-IsBits : goal.returns-in-IsBits
 returns-in-IsBits c = bits-said c.args.st _ _ _ _ c.requires.due _ c.in-IsBits.is _ _ _ c.take_bits.ensures
@@ -48,4 +49,4 @@ returns-in-IsBits c = bits-said c.args.st _ _ _ _ c.requires.due _ c.in-IsBits.i
 pub returns-in-IsBurst : goal.returns-in-IsBurst
 returns-in-IsBurst c = let n = c.new-in-IsBurst.ensures in
     let x = c.take_burst.ensures in
-    burst-said c.args.st _ _ _ _ c.requires.due _ c.in-IsBurst.is c.burst_syndromes.result c.burst_syndromes.ensures _ _ _ (rw (n.st, n.y, n.size) at x)
+    burst-said c.args.st _ _ _ _ c.requires.due _ c.in-IsBurst.is c.burst_syndromes.result (rw c.columns.ensures at c.burst_syndromes.ensures) _ _ _ (rw (n.st, n.y, n.size) at x)

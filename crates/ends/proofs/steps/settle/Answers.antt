@@ -1,14 +1,20 @@
-use Rattle.ends.specs.code.RebuilderCodeLaws.{holds, popped-stages, settled-counts, settled-sound}
+use mathlib.Core.Path.{refl}
+use Rattle.ends.specs.code.RebuilderCodeLaws.{added-out, holds, popped-stages, settled-counts, settled-rows, settled-sound}
 use Rattle.ends.proofs.steps.settle.Goals as goal
 
-pub pop-one-requires : goal.pop-one-requires
-pop-one-requires c = holds c.args.turn.st _ _ c.args.turn.acting
+pub pop-rest-requires : goal.pop-rest-requires
+pop-rest-requires c = holds c.args.turn.st _ _ c.args.turn.acting
 
-pub restage-two-requires : goal.restage-two-requires
-restage-two-requires c = rw c.pop-one.ensures (popped-stages c.args.turn.st _ _ c.args.turn.acting)
+pub restage-requires : goal.restage-requires
+restage-requires c = rw c.pop-rest.ensures (popped-stages c.args.turn.st _ _ c.args.turn.acting)
 
-pub tally-s-requires : goal.tally-s-requires
-tally-s-requires c = rw (c.restage-two.ensures, c.pop-one.ensures) (settled-counts c.args.turn.st _ _ c.args.turn.acting)
+pub add_row-requires : goal.add_row-requires
+add_row-requires c = record {
+  question_room = c.requires;
+  counts = rw (c.restage.ensures, c.pop-rest.ensures) (settled-counts c.args.turn.st _ _ c.args.turn.acting);
+  sound_next = rw (c.restage.ensures, c.pop-rest.ensures) (settled-sound c.args.turn.st _ _ c.args.turn.acting);
+}
 
-pub finish-requires : goal.finish-requires
-finish-requires c = (rw (c.tally-s.ensures, c.restage-two.ensures, c.pop-one.ensures) (settled-sound c.args.turn.st _ _ c.args.turn.acting), c.requires)
+pub returns : goal.returns
+returns c =
+    added-out c.args.turn.st _ (rw (c.restage.ensures, c.pop-rest.ensures) refl) (settled-rows c.args.turn.st _ _ c.args.turn.acting) (rw (c.args.turn.leftmost, c.from.ensures) refl) c.add_row.ensures

@@ -8,4 +8,4 @@ pub finish-requires : goal.finish-requires
 finish-requires c = (rw c.open_state-s.ensures (opening-next c.args.st c.args.n _ c.requires.opening), c.requires.opening.enough)
 
 pub returns : goal.returns
-returns c = λ y size. opening-said c.args.st c.args.n _ c.requires.opening c.open_state-s.ensures y size _ c.clear_bytes.ensures c.finish.ensures
+returns c = λ y size. opening-said c.args.st c.args.n _ c.requires.opening c.open_state-s.ensures y size _ (let x = c.clear_bytes.ensures in rw c.bytes_for.ensures at x) c.finish.ensures

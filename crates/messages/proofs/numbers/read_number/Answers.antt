@@ -1,4 +1,4 @@
-use Rattle.std.proofs.Common.{◌≡◌, ℕ, ◌+◌, ◌-◌, ◌*◌, min, ◌≤◌, ◌<◌, List, length, refl, sym, ap, ◌∙◌, arith}
+use Rattle.std.proofs.Common.{rules, ◌≡◌, ℕ, ◌+◌, ◌-◌, ◌*◌, min, ◌≤◌, ◌<◌, List, length, sym, ap, ◌∙◌, arith}
 use native.Mathlib.Decide.{dec_le}
 use Rattle.messages.specs.Numbers.{next_byte}
 use Rattle.messages.specs.laws.NumberLaws.{weight, read_first, turn-fits, read-cut, read-zero, read-last, read_next, read_none, read_short, read-end}
@@ -13,20 +13,24 @@ fifth s at i w v end a b e l d = go (dec_le (length s) i)
     go (yes h) = read-cut s 0 i 268435456 v h ∙ sym (read-cut s (at + 4 - i) i w v h)
     go (no h) = (read-end s (at + 4 - i) i w v (omega arith) e l).1
 
-pub returns-then-s-at : goal.returns-then-s-at
-returns-then-s-at c = sym (read_none _ _ c.if-s-at.true)
+pub returns-in_default : goal.returns-in_default
+returns-in_default c = sym (read_none _ _ (search rules))
 
 pub returns-then-first-lt128 : goal.returns-then-first-lt128
 returns-then-first-lt128 c = let a = c.args in
-    ap (λ (n : ℕ). value (n, a.at + 1)) c.wide.ensures.0 ∙ sym (read_short _ a.at _ c.if-s-at.false refl c.if-first-lt128.true)
+    let first = c.in-Some.ensures.lookup.3 in
+    ap (λ (n : ℕ). value (n, a.at + 1)) c.wide.ensures.0 ∙ sym (read_short _ a.at _ first.0 (sym (first.1 0)) c.if-first-lt128.true)
 
 pub loop-i-init : goal.loop-i-init
 loop-i-init c = let a = c.args in
+    let first = c.in-Some.ensures.lookup.3 in
+    let is-first = first.1 0 in
     let k : 3 ≡ a.at + 4 - (a.at + 1) = omega arith in
     record {
       weight = ap weight k;
       small = omega (arith, c.wide-v.ensures.0, c.type_inv.s a.at);
-      rest = ap (λ (n : ℕ). next_byte n a.s.now (a.at + 1) 128 c.wide-v.result) (sym k) ∙ read_first a.s.now a.at _ c.if-s-at.false c.if-first-lt128.false c.wide-v.ensures.0;
+      rest = ap (λ (n : ℕ). next_byte n a.s.now (a.at + 1) 128 c.wide-v.result) (sym k)
+          ∙ read_first a.s.now a.at _ first.0 (omega arith) (c.wide-v.ensures.0 ∙ ap (λ (b : ℕ). b - 128) is-first);
     }
 
 pub returns-then-b-eq0 : goal.returns-then-b-eq0
@@ -53,7 +57,8 @@ loop-i-preserved c = let l = c.loop-i in
 pub returns : goal.returns
 returns c = let l = c.loop-i in
     let at = c.args.at in
-    let e : l.i ≡ c.fourth_end-end.result = omega arith in
+    let h : at < length c.args.s.now = c.in-Some.ensures.lookup.3.0 in
+    let e : l.i ≡ c.min-end.result = omega arith in
     c.read_fifth.ensures
     ∙ ap (λ (i : ℕ). next_byte 0 c.args.s.now i 268435456 l.v) (sym e)
-    ∙ fifth c.args.s.now at l.i l.w l.v c.fourth_end-end.result (omega arith) c.fourth_end-end.ensures l.invariant.weight l.invariant.small (omega arith) ∙ l.invariant.rest
+    ∙ fifth c.args.s.now at l.i l.w l.v c.min-end.result (omega arith) c.min-end.ensures l.invariant.weight l.invariant.small (omega arith) ∙ l.invariant.rest

@@ -4,5 +4,5 @@ use Rattle.codes.specs.code.Runs.{places}
 use Rattle.codes.specs.code.Weaving.{Spans}
 use Rattle.codes.proofs.weaving.Woven.span.Given as goal
 
-abbrev pub invariant-loop-j : goal.invariant-loop-j
-invariant-loop-j l = (l.high < l.self.run.piece.len + l.self.run.b) × Spans l.j l.low l.high (places l.self.repairs)
+abbrev pub invariant-loop-one : goal.invariant-loop-one
+invariant-loop-one l = (l.high < l.self.run.piece.len + l.self.run.b) × Spans (l.one-index + 1) l.low l.high (places l.self.repairs)
