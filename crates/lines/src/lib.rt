@@ -1,5 +1,6 @@
 // The text of the demonstration program (01, "The demonstration run"): the lines that it reads, and the bytes of those that it prints.
-// The bytes that are printed are put into a Line of fixed size that its caller made long enough; the put_ methods require it.
+// A line is written into a lent buffer or put into a Line of fixed size, which its caller made long enough; the put_ functions and methods
+// require it.
 #![tactic(auto)]
 
 ghost use Rattle.std.specs.Prelude.{◌≡◌, ℕ, ◌+◌, ◌*◌, ◌≤◌, ◌<◌, List, [], ◌∷◌, ◌++◌, length, take};
@@ -145,6 +146,16 @@ pub fn read_string(input: &[u8], index: usize, out: &mut [u8]) -> Result<usize, 
     parse_bits(line, out)
 }
 
+// Each of the put_ functions writes from index `at` of a lent buffer on, and gives the index behind what it wrote; all other bytes stay.
+
+fn put_byte(out: &mut [u8], at: usize, x: u8) -> usize
+    requires { at + 1 ≤ length out.old }
+    ensures { Puts out.old at (x ∷ []) out.new result }
+{
+    out[at] = x;
+    at + 1
+}
+
 // The lower-case digit of a number below 16. By hand, since char::from_digit gives an Option of a char, to be turned into a byte again.
 #[tactic(auto, unfolding(crate::specs::Printing::hex_digit))]
 fn hex_digit(d: u8) -> u8
@@ -154,18 +165,24 @@ fn hex_digit(d: u8) -> u8
     if d < 10 { b'0' + d } else { b'a' + (d - 10) }
 }
 
-// The digit of a bit. `b'0' + u8::from(b)` is no plainer.
-fn bit_byte(b: bool) -> u8
-    ensures { result ≡ bit_byte b }
+// The bytes in hexadecimal.
+#[tactic(auto, using(crate::specs::laws::PrintLaws::puts_steps))]
+fn put_hex(out: &mut [u8], at: usize, s: &[u8]) -> usize
+    requires { at + 2 * length s.now ≤ length out.old }
+    ensures { Puts out.old at (hex_of s.now) out.new result }
 {
-    if b { b'1' } else { b'0' }
+    let mut j = at;
+    for x in s {
+        out[j] = hex_digit(*x / 16);
+        out[j + 1] = hex_digit(*x % 16);
+        j += 2;
+    }
+    j
 }
 
-// A number in decimal, from index `at` of the buffer on; it gives the index behind it. It is no method of a Line: tried, and a method that
-// calls itself with a const parameter got no proof. By hand: without a heap, Display of std promises its text only where a write succeeds,
-// and not that it does.
+// A number in decimal. By hand: without a heap, Display of std promises its text only where a write succeeds, and not that it does.
 #[tactic(auto, using(crate::specs::laws::PrintLaws::decimal_steps))]
-fn write_decimal(out: &mut [u8], at: usize, v: u32) -> usize
+fn put_decimal(out: &mut [u8], at: usize, v: u32) -> usize
     requires { at + length (decimal v) ≤ length out.old }
     ensures { Puts out.old at (decimal v) out.new result }
 {
@@ -173,9 +190,105 @@ fn write_decimal(out: &mut [u8], at: usize, v: u32) -> usize
         out[at] = b'0' + (v as u8);
         return at + 1;
     }
-    let last = write_decimal(out, at, v / 10);
+    let last = put_decimal(out, at, v / 10);
     out[last] = b'0' + ((v % 10) as u8);
     last + 1
+}
+
+// The digit of a bit. `b'0' + u8::from(b)` is no plainer.
+fn bit_byte(b: bool) -> u8
+    ensures { result ≡ bit_byte b }
+{
+    if b { b'1' } else { b'0' }
+}
+
+// The first n bits of a string as zeros and ones. String and n are no BitRange: that has at most 65,536 bits, and any n is promised.
+#[tactic(auto, using(crate::specs::laws::PrintLaws::puts_steps))]
+fn put_bits(out: &mut [u8], at: usize, s: &[u8], n: usize) -> usize
+    requires n_in_bounds { at + n ≤ length out.old }
+    requires n_bound { n ≤ 8 * length s.now }
+    ensures { Puts out.old at (bit_bytes (range s.now 0 n)) out.new result }
+{
+    for i in 0..n {
+        out[at + i] = bit_byte(strings::get_bit(s, i));
+    }
+    at + n
+}
+
+// A blank and a number in decimal.
+#[tactic(auto, using(crate::specs::laws::PrintLaws::puts_steps))]
+fn put_next(out: &mut [u8], at: usize, v: u32) -> usize
+    requires { at + 11 ≤ length out.old }
+    ensures { Puts out.old at (blank_byte ∷ decimal v) out.new result }
+{
+    let a = put_byte(out, at, b' ');
+    put_decimal(out, a, v)
+}
+
+// A letter and a blank.
+fn put_letter(out: &mut [u8], at: usize, letter: u8) -> usize
+    requires { at + 2 ≤ length out.old }
+    ensures { Puts out.old at (letter ∷ blank_byte ∷ []) out.new result }
+{
+    let a = put_byte(out, at, letter);
+    put_byte(out, a, b' ')
+}
+
+// The line of a message: letter Q for a question, A for an answer. A byte and no enum, since the line of every letter is promised.
+#[tactic(auto, using(crate::specs::laws::PrintLaws::puts_steps))]
+pub fn put_message_line(out: &mut [u8], at: usize, letter: u8, message: &[u8]) -> usize
+    requires { at + (3 + 2 * length message.now) ≤ length out.old }
+    ensures { Puts out.old at (message_line letter message.now) out.new result }
+{
+    let a = put_letter(out, at, letter);
+    let b = put_hex(out, a, message);
+    put_byte(out, b, b'\n')
+}
+
+// The line of a row. Its how is a number and no How, since the line of every number is promised, also of the 0 of a row of zeros.
+#[tactic(auto, using(crate::specs::laws::PrintLaws::puts_steps))]
+pub fn put_row_line(out: &mut [u8], at: usize, start: u32, len: u32, how: u32) -> usize
+    requires { at + 35 ≤ length out.old }
+    ensures { Puts out.old at (row_line start len how) out.new result }
+{
+    let a = put_byte(out, at, b'P');
+    let b = put_next(out, a, start);
+    let c = put_next(out, b, len);
+    let d = put_next(out, c, how);
+    put_byte(out, d, b'\n')
+}
+
+// The last line of a finished run: the first n bits of the string, the questions after the opening, the counted bytes. No BitRange,
+// as in put_bits.
+#[tactic(auto, using(crate::specs::laws::PrintLaws::puts_steps))]
+pub fn put_last_line(
+    out: &mut [u8],
+    at: usize,
+    s: &[u8],
+    n: usize,
+    questions: u32,
+    counted: u32,
+) -> usize
+    requires n_in_bounds { at + (n + 25) ≤ length out.old }
+    requires n_bound { n ≤ 8 * length s.now }
+    ensures { Puts out.old at (last_line (range s.now 0 n) questions counted) out.new result }
+{
+    let a = put_letter(out, at, b'X');
+    let b = put_bits(out, a, s, n);
+    let c = put_next(out, b, questions);
+    let d = put_next(out, c, counted);
+    put_byte(out, d, b'\n')
+}
+
+// The last line of a run in which a call was turned down. A number and no Refusal, since the line of every number is promised.
+#[tactic(auto, using(crate::specs::laws::PrintLaws::puts_steps))]
+pub fn put_refusal_line(out: &mut [u8], at: usize, number: u32) -> usize
+    requires { at + 13 ≤ length out.old }
+    ensures { Puts out.old at (refusal_line number) out.new result }
+{
+    let a = put_byte(out, at, b'R');
+    let b = put_next(out, a, number);
+    put_byte(out, b, b'\n')
 }
 
 // The bytes that are to be printed next, at most N: an array and how much of it is used, since there is no heap. No equality is derived: it
@@ -195,7 +308,7 @@ impl<const N: usize> Model for Line<N> {
     ghost invariant = { λ line. line.size ≤ N };
 }
 
-#[tactic(auto, using(crate::specs::laws::PrintLaws::line_steps), unfolding(crate::specs::Printing::message_line, crate::specs::Printing::row_line, crate::specs::Printing::last_line, crate::specs::Printing::refusal_line))]
+#[tactic(auto, using(crate::specs::laws::PrintLaws::line_steps))]
 impl<const N: usize> Line<N> {
     // No byte yet.
     pub fn new() -> Self
@@ -214,105 +327,36 @@ impl<const N: usize> Line<N> {
         &self.buffer[..self.size]
     }
 
-    fn put_byte(&mut self, x: u8)
-        requires { length self.old < N }
-        ensures { self.new ≡ self.old ++ x ∷ [] }
-    {
-        self.buffer[self.size] = x;
-        self.size += 1;
-    }
-
-    // The bytes in hexadecimal.
-    fn put_hex(&mut self, s: &[u8])
-        requires { length self.old + 2 * length s.now ≤ N }
-        ensures { self.new ≡ self.old ++ hex_of s.now }
-    {
-        for x in s {
-            self.put_byte(hex_digit(*x / 16));
-            self.put_byte(hex_digit(*x % 16));
-        }
-    }
-
-    // A number in decimal.
-    fn put_decimal(&mut self, v: u32)
-        requires { length self.old + length (decimal v) ≤ N }
-        ensures { self.new ≡ self.old ++ decimal v }
-    {
-        self.size = write_decimal(&mut self.buffer, self.size, v);
-    }
-
-    // The first n bits of a string as zeros and ones. String and n are no BitRange: that has at most 65,536 bits, and any n is promised.
-    fn put_bits(&mut self, s: &[u8], n: usize)
-        requires n_in_bounds { length self.old + n ≤ N }
-        requires n_bound { n ≤ 8 * length s.now }
-        ensures { self.new ≡ self.old ++ bit_bytes (range s.now 0 n) }
-    {
-        for i in 0..n {
-            self.put_byte(bit_byte(strings::get_bit(s, i)));
-        }
-    }
-
-    // A blank and a number in decimal.
-    fn put_next(&mut self, v: u32)
-        requires { length self.old + 11 ≤ N }
-        ensures { self.new ≡ self.old ++ blank_byte ∷ decimal v }
-    {
-        self.put_byte(b' ');
-        self.put_decimal(v);
-    }
-
-    // A letter and a blank.
-    fn put_letter(&mut self, letter: u8)
-        requires { length self.old + 2 ≤ N }
-        ensures { self.new ≡ self.old ++ letter ∷ blank_byte ∷ [] }
-    {
-        self.put_byte(letter);
-        self.put_byte(b' ');
-    }
-
-    // The line of a message: letter Q for a question, A for an answer. A byte and no enum, since the line of every letter is promised.
+    // The line of a message, put behind what is there.
     pub fn put_message_line(&mut self, letter: u8, message: &[u8])
         requires { length self.old + (3 + 2 * length message.now) ≤ N }
         ensures { self.new ≡ self.old ++ message_line letter message.now }
     {
-        self.put_letter(letter);
-        self.put_hex(message);
-        self.put_byte(b'\n');
+        self.size = put_message_line(&mut self.buffer, self.size, letter, message);
     }
 
-    // The line of a row. Its how is a number and no How, since the line of every number is promised, also of the 0 of a row of zeros.
+    // The line of a row.
     pub fn put_row_line(&mut self, start: u32, len: u32, how: u32)
         requires { length self.old + 35 ≤ N }
         ensures { self.new ≡ self.old ++ row_line start len how }
     {
-        self.put_byte(b'P');
-        self.put_next(start);
-        self.put_next(len);
-        self.put_next(how);
-        self.put_byte(b'\n');
+        self.size = put_row_line(&mut self.buffer, self.size, start, len, how);
     }
 
-    // The last line of a finished run: the first n bits of the string, the questions after the opening, the counted bytes. No BitRange,
-    // as in put_bits.
+    // The last line of a finished run.
     pub fn put_last_line(&mut self, s: &[u8], n: usize, questions: u32, counted: u32)
         requires n_in_bounds { length self.old + (n + 25) ≤ N }
         requires n_bound { n ≤ 8 * length s.now }
         ensures { self.new ≡ self.old ++ last_line (range s.now 0 n) questions counted }
     {
-        self.put_letter(b'X');
-        self.put_bits(s, n);
-        self.put_next(questions);
-        self.put_next(counted);
-        self.put_byte(b'\n');
+        self.size = put_last_line(&mut self.buffer, self.size, s, n, questions, counted);
     }
 
-    // The last line of a run in which a call was turned down. A number and no Refusal, since the line of every number is promised.
+    // The last line of a run in which a call was turned down.
     pub fn put_refusal_line(&mut self, number: u32)
         requires { length self.old + 13 ≤ N }
         ensures { self.new ≡ self.old ++ refusal_line number }
     {
-        self.put_byte(b'R');
-        self.put_next(number);
-        self.put_byte(b'\n');
+        self.size = put_refusal_line(&mut self.buffer, self.size, number);
     }
 }

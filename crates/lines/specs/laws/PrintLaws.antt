@@ -6,6 +6,7 @@ use mathlib.Core.List.{List, [], ◌∷◌, ◌++◌}
 use Prim.Native.Nat.{ℕ, zero, suc, ◌+◌, ◌*◌, ◌/◌, ◌%◌, ◌^◌, ◌≤◌, ◌<◌, ◌-◌}
 use native.Mathlib.Omega.{arith}
 use Rattle.std.proofs.lemmas.List.{take_more, take_at, length-take}
+use Rattle.std.proofs.Math.Seq.{length-sets}
 use Rattle.std.proofs.lemmas.List.Edits.{sets-eq}
 use Rattle.strings.specs.laws.StoreLaws.{sets-append}
 use Rattle.std.proofs.lemmas.Grind.{common_steps}
@@ -31,6 +32,22 @@ puts_behind {buf} {bytes} {after} {at} {end} p h =
   where
     long : length (take at buf ++ bytes) ≡ at + length bytes
     long = let a = length-append (take at buf) bytes in let b = length-take at buf in omega arith
+
+-- nothing written yet
+pub puts_none : (buf : List ℕ) (at : ℕ) → Puts buf at [] buf at
+puts_none buf at = record { ends = omega arith; holds = refl }
+
+-- a buffer keeps its length
+pub puts_long : {buf bytes after : List ℕ} {at end : ℕ} → Puts buf at bytes after end → length after ≡ length buf
+puts_long {buf} {bytes} {after} {at} {end} p = ap length p.holds ∙ length-sets buf at bytes
+
+-- one more byte
+puts_push : {buf bytes after : List ℕ} {at end : ℕ} → Puts buf at bytes after end → (x : ℕ) → Puts buf at (bytes ++ x ∷ []) (set after end x) (end + 1)
+puts_push p x = puts-next p (record { ends = refl; holds = refl })
+
+-- the same of a line, which is the used front of its buffer
+pub puts_shown : {buf bytes after line : List ℕ} {at end : ℕ} → Puts buf at bytes after end → take at buf ≡ line → at + length bytes ≤ length buf → take end after ≡ line ++ bytes
+puts_shown {buf} {bytes} p e h = puts_behind p h ∙ ap (λ (l : List ℕ). l ++ bytes) e
 
 -- ---- hexadecimal
 pub hex-low : (d : ℕ) → d < 10 → 48 + d ≡ hex_digit d
@@ -72,6 +89,15 @@ hex_push (y ∷ l) x = ap (λ (t : List ℕ). hex_digit (y / 16) ∷ hex_digit (
 -- one more byte
 pub hex_more : (s : List ℕ) (i : ℕ) → i < length s → hex_of (take (i + 1) s) ≡ (hex_of (take i s) ++ hex_digit (get_or s i 0 / 16) ∷ []) ++ hex_digit (get_or s i 0 % 16) ∷ []
 hex_more s i h = ap hex_of (take_more s i 0 h) ∙ hex_push (take i s) (get_or s i 0)
+
+-- a byte's two digits, written behind those of the bytes before it
+pub hex_puts : (s : List ℕ) (i : ℕ) {buf after : List ℕ} {at end a b : ℕ} → i < length s → a ≡ hex_digit (get_or s i 0 / 16) → b ≡ hex_digit (get_or s i 0 % 16)
+    → Puts buf at (hex_of (take i s)) after end → Puts buf at (hex_of (take (i + 1) s)) (set (set after end a) (end + 1) b) (end + 2)
+hex_puts s i {buf} {after} {at} {end} {a} {b} h e f p =
+    rw (e, f, hex_more s i h, two) (puts_push (puts_push p (hex_digit (get_or s i 0 / 16))) (hex_digit (get_or s i 0 % 16)))
+  where
+    two : end + 2 ≡ (end + 1) + 1
+    two = omega arith
 
 -- ---- decimal
 pub length_digits : (k v : ℕ) → length (digits_in k v) ≤ suc k
@@ -170,8 +196,13 @@ text_more s i = ap bit_bytes (range-add s 0 i 1 ∙ one) ∙ bytes_push (range s
     one : range s 0 i ++ range s (0 + i) 1 ≡ range s 0 i ++ bit_at s i ∷ []
     one = rw (zero-add, range-step s i 1 (lit< tt), range_none) refl
 
--- what the goals of a line's parts need: how long each part is, how it begins and goes on, and that parts are put one behind the other
-pub ruleset line_steps = (common_steps, append_assoc, length-append, length-hex, hex_none, hex_more, length-text, text_none, text_more, length-decimal)
+-- a bit's digit, written behind those of the bits before it
+pub text_puts : (s : List ℕ) (i : ℕ) {buf after : List ℕ} {at x : ℕ} {b : Bool} → b ≡ bit_at s i → x ≡ bit_byte b
+    → Puts buf at (bit_bytes (range s 0 i)) after (at + i) → Puts buf at (bit_bytes (range s 0 (i + 1))) (set after (at + i) x) (at + (i + 1))
+text_puts s i {buf} {after} {at} e f p = rw (f, e, text_more s i, more) (puts_push p (bit_byte (bit_at s i)))
+  where
+    more : at + (i + 1) ≡ (at + i) + 1
+    more = omega arith
 
 -- ---- how long the lines are
 pub length-message-line : (letter : ℕ) (message : List ℕ) → length (message_line letter message) ≡ 3 + 2 * length message
@@ -202,3 +233,10 @@ length-row-line start len how =
 pub length-refusal-line : (number : ℕ) → length (refusal_line number) ≤ 13
 unfolding refusal_line
 length-refusal-line number = let a = length-next number (newline_byte ∷ []) in omega arith
+
+-- ---- rulesets
+-- what the goals of writing into a lent buffer need: how long each part is, how it begins and goes on, and that it is written behind what is there
+pub ruleset puts_steps = (common_steps, length-append, puts-next, puts_none, puts_long, hex_none, length-hex, text_none, length-text, length-decimal)
+
+-- what the goals of a line's parts need: how long each part is, how it begins and goes on, and that parts are put one behind the other
+pub ruleset line_steps = (common_steps, puts_shown, append_assoc, length-append, length-hex, hex_none, hex_more, length-text, text_none, text_more, length-decimal, length-message-line, length-last-line, length-row-line, length-refusal-line)
