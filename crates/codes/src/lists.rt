@@ -66,43 +66,42 @@ fn power(digits: usize) -> usize
     1usize << digits
 }
 
-// The low numbers as linked lists, one for each residue: its first number, behind each number the next, and how many there are. Behind the
-// last stands the count of the low numbers, which is none of them: an Option would be no plainer, because it does not bound the index, and
-// each step would test twice. As no heap is used, the arrays have room for the most bits that are listed. Nothing more is
-// derived: these are more than 8 KB, which nothing copies, compares or prints.
-#[derive(Drop)]
-struct Links {
+// The low numbers are linked and counted, from the last to the first: where none is so far, `first` has their count and `counts` zeros.
+fn link_lows(
     list: Listed,
-    first: [usize; 21],
-    next: [usize; 1024],
-    counts: [usize; 21],
-    ghost linked: { Linked list.n 0 first next },
-    ghost counted: { Counted list.n 0 counts },
+    first: &mut [usize; 21],
+    next: &mut [usize; 1024],
+    counts: &mut [usize; 21],
+)
+    requires linked { Linked list.n (2 ^ low_digits list.n) first.old next.old }
+    requires counted { Counted list.n (2 ^ low_digits list.n) counts.old }
+    ensures linked { Linked list.n 0 first.new next.new }
+    ensures counted { Counted list.n 0 counts.new }
+{
+    let size = power(list.n / 2);
+    for j in (0..size).rev() {
+        let r = list.low_residue(j);
+        next[j] = first[r];
+        first[r] = j;
+        counts[r] += 1;
+    }
 }
 
-impl Links {
-    // The low numbers are linked and counted, from the last to the first.
-    fn new(list: Listed) -> Links
-        ensures { result.list ≡ list }
-    {
-        let size = power(list.n / 2);
-        let mut first: [usize; 21] = [size; 21];
-        let mut next: [usize; 1024] = [0; 1024];
-        let mut counts: [usize; 21] = [0; 21];
-        for j in (0..size).rev() {
-            let r = list.low_residue(j);
-            next[j] = first[r];
-            first[r] = j;
-            counts[r] += 1;
-        }
-        Links {
-            list,
-            first,
-            next,
-            counts,
-        }
-    }
+// The low numbers as linked lists, one for each residue: its first number, behind each number the next, and how many there are. Behind the
+// last stands the count of the low numbers, which is none of them: an Option would be no plainer, because it does not bound the index, and
+// each step would test twice. As no heap is used, the arrays have room for the most bits that are listed. They are lent: as a part of the
+// value their 8 KB would be copied when it is made, which takes longer than a short list.
+#[derive(Clone, Copy)]
+struct Links<'a> {
+    list: Listed,
+    first: &'a [usize; 21],
+    next: &'a [usize; 1024],
+    counts: &'a [usize; 21],
+    ghost linked: { Linked list.n 0 first.now next.now },
+    ghost counted: { Counted list.n 0 counts.now },
+}
 
+impl Links<'_> {
     // How many strings are listed.
     fn count(&self) -> usize
         ensures { result ≡ length (listing self.now.list.n self.now.list.a) }
@@ -156,7 +155,17 @@ pub fn list_syndrome(n: usize, a: usize, out: &mut [u32]) -> Result<u32, Refusal
     if MAX_LIST_BITS < n || n < a {
         return Err(Refusal::OutOfRange);
     }
-    let links = Links::new(Listed { n, a });
+    let list = Listed { n, a };
+    let mut first = [power(n / 2); 21];
+    let mut next = [0; 1024];
+    let mut counts = [0; 21];
+    link_lows(list, &mut first, &mut next, &mut counts);
+    let links = Links {
+        list,
+        first: &first,
+        next: &next,
+        counts: &counts,
+    };
     let count = links.count();
     if out.len() < count {
         return Err(Refusal::ListTooShort);

@@ -8,7 +8,7 @@ use Rattle.codes.proofs.lists.Links.count.Goals as goal
 
 -- in a turn: the count that is added is that of the block
 turn : (c : goal.After-total-1) → length (blocks c.args.self.now.list.n c.args.self.now.list.a c.loop-h.h)
-    ≡ get_or c.args.self.now.counts c.wanted_residue.result 0
+    ≡ get_or c.args.self.now.counts.now c.wanted_residue.result 0
     + length (blocks c.args.self.now.list.n c.args.self.now.list.a (c.loop-h.h + 1))
 turn c =
     let start = c.before.before.before.before.before.before in

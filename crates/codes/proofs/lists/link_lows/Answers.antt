@@ -2,14 +2,12 @@ use mathlib.Core.Path.{◌≡◌}
 use Prim.Native.Nat.{suc, ◌-◌, ◌^◌, ◌<◌}
 use native.Mathlib.Omega.{arith}
 use Rattle.codes.specs.code.Linking.{low_digits}
-use Rattle.codes.specs.laws.LinkingLaws.{low-power-most, lows-most, linked-none, counted_none, linked-next, counted_next}
+use Rattle.codes.specs.laws.LinkingLaws.{low-power-most, lows-most, linked-next, counted_next}
 use borrow.Author.Rules.{rules}
-use Rattle.codes.proofs.lists.Links.new.Goals as goal
+use Rattle.codes.proofs.lists.link_lows.Goals as goal
 
 pub loop-j-init : goal.loop-j-init
-loop-j-init c = let n = c.args.list.n in
-    let e = c.power-size.ensures in
-    (omega arith, linked-none n _ e (omega arith), counted_none n _ e (omega arith))
+loop-j-init c = let e = c.power-size.ensures in (omega arith, rw e c.requires.linked, rw e c.requires.counted)
 
 pub bounds-next-j : goal.bounds-next-j
 bounds-next-j c = let q = c.loop-j.invariant.1.numbers in let m = low-power-most c.args.list.n c.args.list.few in let i = c.loop-j.invariant.0 in search rules
