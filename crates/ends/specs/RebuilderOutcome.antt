@@ -23,7 +23,7 @@ pub record StartSaid : Type 0 where
   pub state : Rebuilder
   pub question : List ℕ
 
--- the state that a refused start gives: zeros, which no call takes
+-- the state said of a refused start, which gives none: zeros, which no call takes
 abbrev pub no_rebuilder : Rebuilder
 no_rebuilder = record {
   settings = record { m = 0; h = 0; k = 0; key = 0; ceiling = 0 };
